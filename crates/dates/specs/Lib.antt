@@ -1,0 +1,3 @@
+pub mod Calendar
+pub mod Answers
+pub mod Laws
