@@ -1,0 +1,28 @@
+-- `records::not_zero` meets its contract: at each return the tests that led there decide the definition's.
+-- Assumes nothing.
+use Rattle.laws.proofs.Tests.{tests}
+use Rattle.records.specs.Refusals.{notZero}
+use borrow.Author.Needs.{needs}
+use Rattle.records.proofs.not_zero.Statement.{statement}
+use Rattle.records.proofs.not_zero.Tie as tie
+
+pub not-zero-spec : {M : Type 1} → statement M
+not-zero-spec =
+    tie.close
+    (tie.spec
+    (λ c. search needs)
+    (λ c κs. search needs)
+    (λ c κs. search needs)
+    (λ c. search needs)
+    (λ c κs. search needs)
+    (λ c. search needs)
+    (λ c κs. search needs)
+    (λ c. search needs)
+    (λ c κs. search needs)
+    (λ c. unfold notZero in rw (c .before .before .before .entry .given .1, c .before .if1 .taken) (c .some-set-beyond .ensures))
+    (λ c. unfold notZero in rw (c .before .before .before .entry .given .1, c .before .if1 .left, c .if2 .taken))
+    (λ c. unfold notZero in rw (c .before .before .before .before .before .entry .given .1, c .before .before .before .if1 .left, c .before .before .if2 .left) (search tests))
+    (λ c. unfold notZero in rw (c .before .before .before .before .before .before .entry .given .1, c .before .before .before .before .if1 .left, c .before .before .before .if2 .left) (search (tests, c .some-set-beyond2 .ensures)))
+    (λ c. unfold notZero in rw (c .before .enum-told .given .1) (c .some-sized-unmeasured .ensures))
+    (λ c. unfold notZero in rw (c .before .enum-told2 .given .1) (c .some-set-beyond3 .ensures))
+    (λ c. unfold notZero in rw (c .before .enum-told3 .given .1) (c .some-set-beyond4 .ensures)))

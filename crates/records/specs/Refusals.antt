@@ -1,0 +1,94 @@
+-- Document 01, "Dates and records" and "Where a call stops": the refusals 3, 4 and 5 of any record.
+-- Assumes nothing.
+use Prim.Native.Nat.{ℕ}
+use mathlib.Core.Bool.{Bool, false, not}
+use mathlib.Core.List.{List}
+use lib.Dec.{ltb, leb, eqb}
+use lib.ListN.{getD}
+use Rattle.laws.specs.Choice.{both, either, pick, some}
+use Rattle.dates.specs.Calendar.{dateExists}
+use Rattle.records.specs.Form.{dateOf}
+use Rattle.records.specs.declared.Entry.{Entry}
+use Rattle.records.specs.declared.Entry.the-variants.{Baseline, Visit, Therapy, Death}
+use Rattle.records.specs.declared.BaselineEntry.{BaselineEntry}
+use Rattle.records.specs.declared.Record.{Record}
+use Rattle.records.specs.declared.CheckAnswer.{CheckAnswer}
+use Rattle.records.specs.declared.CheckAnswer.the-variants.{Passed, NoSuchDate, OutsideLimits, NotZero}
+
+-- the number of each case in document 01; 0 where no refusal meets
+abbrev pub checkNumber : CheckAnswer → ℕ
+checkNumber Passed = 0
+checkNumber NoSuchDate = 3
+checkNumber OutsideLimits = 4
+checkNumber NotZero = 5
+
+abbrev pub mostTargets : ℕ
+mostTargets = 5
+
+-- in whole millimetres, as every size
+abbrev pub largestSize : ℕ
+largestSize = 500
+
+-- a node (short axis) from 15 mm, any other target from 10
+abbrev pub leastSize : Bool → ℕ
+leastSize node = pick node 15 10
+
+-- what one target, by its place, its mark and its size, can break:
+-- a size within the count is from the least size to the largest
+unfoldable pub wrongSize : ℕ → ℕ → Bool → ℕ → Bool
+wrongSize count i node size = both (ltb i count) (either (ltb size (leastSize node)) (ltb largestSize size))
+
+-- a size measured is at most the largest
+unfoldable pub largeMeasured : Bool → ℕ → Bool
+largeMeasured measured size = both measured (ltb largestSize size)
+
+-- a target beyond the count is zero
+unfoldable pub setBeyond : ℕ → ℕ → Bool → ℕ → Bool
+setBeyond count i mark size = both (leb count i) (either mark (ltb 0 size))
+
+-- the size of an unmeasured target is zero
+unfoldable pub sizedUnmeasured : Bool → ℕ → Bool
+sizedUnmeasured measured size = both (not measured) (ltb 0 size)
+
+abbrev pub targetAt : (ℕ → Bool → ℕ → Bool) → List Bool → List ℕ → ℕ → Bool
+targetAt f marks sizes i = f i (getD marks i false) (getD sizes i 0)
+
+-- some target of the five
+abbrev pub someTarget : (ℕ → Bool → ℕ → Bool) → List Bool → List ℕ → Bool
+someTarget f marks sizes = some (targetAt f marks sizes) mostTargets
+
+-- neither a target nor non-target disease
+unfoldable pub withoutDisease : BaselineEntry → Bool
+withoutDisease b = both (eqb (b .count) 0) (not (b .nontarget))
+
+-- 4: count, sizes within the count, sizes measured, and an assessed baseline without disease
+unfoldable pub outsideLimits : Entry → List Bool → List ℕ → Bool
+outsideLimits (Baseline b) marks sizes =
+    both (b .assessed)
+    (either (ltb mostTargets (b .count)) (either (withoutDisease b) (someTarget (wrongSize (b .count)) marks sizes)))
+outsideLimits (Visit v) marks sizes = someTarget (λ (i : ℕ). largeMeasured) marks sizes
+outsideLimits (Therapy d) marks sizes = false
+outsideLimits (Death d) marks sizes = false
+
+-- 5: targets beyond the count, the size of an unmeasured target and everything after a 0 assessed bit are zero
+unfoldable pub notZero : Entry → List Bool → List ℕ → Bool
+notZero (Baseline b) marks sizes =
+    pick (b .assessed) (someTarget (setBeyond (b .count)) marks sizes)
+    (either (b .nontarget) (either (ltb 0 (b .count)) (someTarget (setBeyond 0) marks sizes)))
+notZero (Visit v) marks sizes = someTarget (λ (i : ℕ). sizedUnmeasured) marks sizes
+notZero (Therapy d) marks sizes = someTarget (setBeyond 0) marks sizes
+notZero (Death d) marks sizes = someTarget (setBeyond 0) marks sizes
+
+-- the first of the three that meets, 0 for none
+abbrev pub firstOwn : Bool → Bool → Bool → ℕ
+firstOwn noDate outside set = pick noDate 3 (pick outside 4 (pick set 5 0))
+
+-- what was read as a record, with a status that is none (4) or a spare bit that is set (5) beside it
+unfoldable pub refusalOfRead : Record → Bool → Bool → ℕ
+refusalOfRead r unlawful spare =
+    firstOwn (not (dateExists (dateOf (r .entry)))) (either unlawful (outsideLimits (r .entry) (r .marks) (r .sizes)))
+    (either spare (notZero (r .entry) (r .marks) (r .sizes)))
+
+-- a record value has neither
+abbrev pub refusalOf : Record → ℕ
+refusalOf r = refusalOfRead r false false

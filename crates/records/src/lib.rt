@@ -1,0 +1,143 @@
+// The record value and its own refusals, 3 to 5 (document 01, "Dates and records" and "Where a call stops").
+use dates::Date;
+ghost use mathlib.Core.Path.{_≡_};
+ghost use Rattle.records.specs.Form.{dateOf};
+ghost use Rattle.records.specs.Refusals.{withoutDisease, outsideLimits, notZero, checkNumber, refusalOfRead, refusalOf};
+
+mod targets; // targets.rt: what some of the five targets breaks
+
+// The non-target status of a visit.
+pub enum Status {
+    // No non-target lesions at baseline.
+    NA,
+    CR,
+    // Neither CR nor PD.
+    NN,
+    PD,
+    // Not evaluable.
+    NE,
+}
+
+pub struct BaselineEntry {
+    // The randomisation date.
+    pub date: Date,
+    // False where the baseline is missing.
+    pub assessed: bool,
+    // Has non-target lesions.
+    pub nontarget: bool,
+    // How many of the five targets there are.
+    pub count: u8,
+}
+
+pub struct VisitEntry {
+    pub date: Date,
+    pub status: Status,
+    pub newlesion: bool,
+}
+
+pub enum Entry {
+    Baseline(BaselineEntry),
+    Visit(VisitEntry),
+    Therapy(Date),
+    Death(Date),
+}
+
+// A record, with the five targets' sizes in millimetres beside the entry. A mark is 'node' in a baseline and 'measured' in a visit.
+pub struct Record {
+    pub entry: Entry,
+    pub sizes: [u16; 5],
+    pub marks: [bool; 5],
+}
+
+// What a record's own refusals say of it.
+pub enum CheckAnswer {
+    Passed,
+    NoSuchDate,
+    OutsideLimits,
+    NotZero,
+}
+
+const MOST_TARGETS: u8 = 5;
+
+pub fn date_of(entry: Entry) -> Date
+    ensures { λ r. ⌜ r ≡ dateOf entry ⌝ }
+{
+    match entry {
+        Entry::Baseline(b) => b.date,
+        Entry::Visit(v) => v.date,
+        Entry::Therapy(d) => d,
+        Entry::Death(d) => d,
+    }
+}
+
+fn without_disease(b: BaselineEntry) -> bool
+    ensures { λ r. ⌜ r ≡ withoutDisease b ⌝ }
+{
+    b.count == 0 && !b.nontarget
+}
+
+// Refusal 4.
+fn outside_limits(entry: Entry, marks: [bool; 5], sizes: [u16; 5]) -> bool
+    ensures { λ r. ⌜ r ≡ outsideLimits entry marks sizes ⌝ }
+{
+    match entry {
+        Entry::Baseline(b) => {
+            b.assessed
+                && (MOST_TARGETS < b.count
+                    || (without_disease(b) || targets::some_wrong_size(b.count, marks, sizes)))
+        }
+        Entry::Visit(_) => targets::some_large_measured(marks, sizes),
+        Entry::Therapy(_) => false,
+        Entry::Death(_) => false,
+    }
+}
+
+// Refusal 5.
+fn not_zero(entry: Entry, marks: [bool; 5], sizes: [u16; 5]) -> bool
+    ensures { λ r. ⌜ r ≡ notZero entry marks sizes ⌝ }
+{
+    match entry {
+        Entry::Baseline(b) => {
+            if b.assessed {
+                targets::some_set_beyond(b.count, marks, sizes)
+            } else {
+                b.nontarget || (0 < b.count || targets::some_set_beyond(0, marks, sizes))
+            }
+        }
+        Entry::Visit(_) => targets::some_sized_unmeasured(marks, sizes),
+        Entry::Therapy(_) => targets::some_set_beyond(0, marks, sizes),
+        Entry::Death(_) => targets::some_set_beyond(0, marks, sizes),
+    }
+}
+
+// The record's own refusals in the order of their numbers. What was read beside the record goes with them: a status that is none
+// is outside its limits, and a spare bit that is set is not zero.
+pub fn check_read(r: Record, unlawful: bool, spare: bool) -> CheckAnswer
+    ensures { λ c. ⌜ checkNumber c ≡ refusalOfRead r unlawful spare ⌝ }
+{
+    let entry = r.entry;
+    let marks = r.marks;
+    let sizes = r.sizes;
+    if !dates::date_exists(date_of(entry)) {
+        return CheckAnswer::NoSuchDate;
+    }
+    if unlawful {
+        return CheckAnswer::OutsideLimits;
+    }
+    if outside_limits(entry, marks, sizes) {
+        return CheckAnswer::OutsideLimits;
+    }
+    if spare {
+        return CheckAnswer::NotZero;
+    }
+    if not_zero(entry, marks, sizes) {
+        return CheckAnswer::NotZero;
+    }
+    CheckAnswer::Passed
+}
+
+pub fn check(r: Record) -> CheckAnswer
+    ensures { λ c. ⌜ checkNumber c ≡ refusalOf r ⌝ }
+{
+    check_read(r, false, false)
+}
