@@ -1,0 +1,121 @@
+-- The bytes of a record that no refusal meets are read as that record.
+-- Assumes nothing.
+use mathlib.Core.Path.{_≡_, refl, sym, _∙_, ap}
+use mathlib.Core.Bool.{Bool, true, false}
+use mathlib.Core.List.{List, [], _∷_}
+use Prim.Native.Nat.{ℕ, _<_}
+use lib.Dec.{lit<}
+use lib.ListN.{getD, length}
+use borrow.Author.Tests.{le-ltb, le-leb}
+use Rattle.laws.proofs.Some.{some-none}
+use Rattle.laws.proofs.Lists.{whole}
+use Rattle.packing.specs.Layout.{total, unpack, Fit, bytes}
+use Rattle.packing.proofs.Packing.{pack-lt, unpack-pack, pack-unpack}
+use Rattle.packing.proofs.Append.{fit-append}
+use Rattle.records.specs.Form.{dateOf, Five, kindNumber, statusNumber}
+use Rattle.records.specs.Refusals.{mostTargets, setBeyond, targetAt, someTarget, notZero, refusalOf}
+use Rattle.records.specs.declared.Record.{Record}
+use Rattle.records.specs.declared.Entry.{Entry}
+use Rattle.records.specs.declared.Entry.the-variants.{Baseline, Visit, Therapy, Death}
+use Rattle.records.specs.declared.Status.{Status}
+use Rattle.records.specs.declared.Status.the-variants.{NA, CR, NN, PD, NE}
+use Rattle.records.proofs.Passed.{passes, clear-target}
+use Rattle.codec.specs.Bytes.{recordLength, bit, headLayout, bodyLayout, headFields, targetFields, bodyFields, layoutOf, fieldsOf, recordNumber, bytesOf, bytesNumber}
+use Rattle.codec.specs.Reading.{isOne, dateFrom, marksFrom, sizesFrom, statusFrom, baselineFrom, visitFrom, spareFrom, baselineIn, visitIn, spareIn, rawIn, kindIn, refusalOfNumber, refusalOfBytes, recordOfBytes}
+use Rattle.codec.specs.declared.Raw.{Raw}
+use Rattle.codec.proofs.Parts.{status-le, kind-range, head-fits, body-fits}
+
+isOne-bit : (b : Bool) → isOne (bit b) ≡ b
+isOne-bit true = refl
+isOne-bit false = refl
+
+status-back : (s : Status) → statusFrom (statusNumber s) ≡ s
+unfolding statusFrom
+status-back NA = refl
+status-back CR = refl
+status-back NN = refl
+status-back PD = refl
+status-back NE = refl
+
+-- a record as it is read where nothing is out of place
+abbrev full : Entry → List Bool → List ℕ → Raw
+full e m s = record { read = record { entry = e; sizes = s; marks = m }; unlawful = false; spare = false }
+
+module _ (m : List Bool) (s : List ℕ) (lm : length m ≡ 5) (ls : length s ≡ 5) where
+  sizes-back : sizesFrom (targetFields m s) ≡ s
+  sizes-back = whole 0 s 5 ls
+
+  marks-back : marksFrom (targetFields m s) ≡ m
+  marks-back = simp isOne-bit (whole false m 5 lm)
+
+  no-targets : someTarget (setBeyond 0) m s ≡ false →
+      (m ≡ false ∷ false ∷ false ∷ false ∷ false ∷ []) × (s ≡ 0 ∷ 0 ∷ 0 ∷ 0 ∷ 0 ∷ [])
+  no-targets z = (
+    sym (whole false m 5 lm) ∙ rw (at 0 (lit< tt) .0, at 1 (lit< tt) .0, at 2 (lit< tt) .0, at 3 (lit< tt) .0, at 4 (lit< tt) .0),
+    sym (whole 0 s 5 ls) ∙ rw (at 0 (lit< tt) .1, at 1 (lit< tt) .1, at 2 (lit< tt) .1, at 3 (lit< tt) .1, at 4 (lit< tt) .1),
+  )
+    where
+      at : (k : ℕ) → k < mostTargets → (getD m k false ≡ false) × (getD s k 0 ≡ 0)
+      at k l = clear-target k (getD m k false) (getD s k 0) (some-none (targetAt (setBeyond 0) m s) mostTargets z k l)
+
+  -- the fields are read as the record
+  fields-back : (e : Entry) (n : ℕ) → notZero e m s ≡ false →
+      unpack (layoutOf e) n ≡ fieldsOf e m s → rawIn (kindNumber e) n ≡ full e m s
+  unfolding rawIn baselineIn visitIn spareIn notZero
+  fields-back (Baseline b) n z u =
+      ap baselineFrom u ∙ rw (isOne-bit (b .assessed), isOne-bit (b .nontarget), sizes-back, marks-back)
+  fields-back (Visit v) n z u =
+      ap visitFrom u
+      ∙ rw (isOne-bit (v .newlesion), status-back (v .status), le-ltb 4 (statusNumber (v .status)) (status-le (v .status)), sizes-back, marks-back)
+  fields-back (Therapy d) n z u =
+      let t = no-targets z in ap (λ (f : List ℕ). spareFrom (Therapy (dateFrom f)) f) u ∙ rw (t .0, t .1)
+  fields-back (Death d) n z u =
+      let t = no-targets z in ap (λ (f : List ℕ). spareFrom (Death (dateFrom f)) f) u ∙ rw (t .0, t .1)
+
+  kind-back : (e : Entry) (n : ℕ) →
+      unpack (layoutOf e) n ≡ fieldsOf e m s → kindIn n ≡ kindNumber e
+  kind-back (Baseline b) n u = ap (λ (f : List ℕ). getD f 0 0) u
+  kind-back (Visit v) n u = ap (λ (f : List ℕ). getD f 0 0) u
+  kind-back (Therapy d) n u = ap (λ (f : List ℕ). getD f 0 0) u
+  kind-back (Death d) n u = ap (λ (f : List ℕ). getD f 0 0) u
+
+pub layout-total : (e : Entry) → total (layoutOf e) ≡ total (bytes recordLength)
+layout-total (Baseline b) = refl
+layout-total (Visit v) = refl
+layout-total (Therapy d) = refl
+layout-total (Death d) = refl
+
+module _ (r : Record) (five : Five r) (fine : refusalOf r ≡ 0) where
+  fields-fit : Fit (layoutOf (r .entry)) (fieldsOf (r .entry) (r .marks) (r .sizes))
+  fields-fit =
+      let p = passes r false false fine in
+      fit-append headLayout (bodyLayout (r .entry)) (headFields (kindNumber (r .entry)) (dateOf (r .entry)))
+      (bodyFields (r .entry) (r .marks) (r .sizes)) (head-fits (r .entry) (p .date)) (body-fits (r .entry) (r .marks) (r .sizes) (p .limits) (p .zeros))
+
+  number-back : bytesNumber (bytesOf r) ≡ recordNumber (r .entry) (r .marks) (r .sizes)
+  unfolding bytesNumber bytesOf recordNumber
+  number-back =
+      pack-unpack (bytes recordLength) _
+      (rw (layout-total (r .entry)) at (pack-lt (layoutOf (r .entry)) (fieldsOf (r .entry) (r .marks) (r .sizes)) fields-fit))
+
+  fields-of-number : unpack (layoutOf (r .entry)) (recordNumber (r .entry) (r .marks) (r .sizes)) ≡ fieldsOf (r .entry) (r .marks) (r .sizes)
+  unfolding recordNumber
+  fields-of-number = unpack-pack (layoutOf (r .entry)) (fieldsOf (r .entry) (r .marks) (r .sizes)) fields-fit
+
+  kind-read : kindIn (bytesNumber (bytesOf r)) ≡ kindNumber (r .entry)
+  kind-read = rw number-back (kind-back (r .marks) (r .sizes) (five .marks) (five .sizes) (r .entry) _ fields-of-number)
+
+  raw-read : rawIn (kindNumber (r .entry)) (bytesNumber (bytesOf r)) ≡ full (r .entry) (r .marks) (r .sizes)
+  raw-read =
+      rw number-back
+      (fields-back (r .marks) (r .sizes) (five .marks) (five .sizes) (r .entry) _ (passes r false false fine .zeros) fields-of-number)
+
+  pub no-refusal-back : refusalOfBytes (bytesOf r) ≡ 0
+  unfolding refusalOfBytes bytesOf refusalOfNumber
+  no-refusal-back =
+      let k = kind-range (r .entry) in
+      rw (kind-read, le-leb 1 (kindNumber (r .entry)) (k .0), le-leb (kindNumber (r .entry)) 4 (k .1), raw-read) fine
+
+  pub record-back : recordOfBytes (bytesOf r) ≡ r
+  unfolding recordOfBytes
+  record-back = rw (no-refusal-back, kind-read, raw-read)

@@ -1,0 +1,72 @@
+-- Both round trips and the printed baseline, from the promises of reading and writing.
+-- Assumes nothing.
+use mathlib.Core.Path.{_≡_, refl, sym, _∙_}
+use mathlib.Core.List.{List, _++_}
+use Prim.Native.Nat.{ℕ, _≤_}
+use lib.ListN.{length, take, drop}
+use borrow.Author.Tests.{le-ltb}
+use Rattle.dates.specs.Calendar.{leapYear, daysInMonth, dateExists}
+use Rattle.records.specs.Refusals.{wrongSize, setBeyond, withoutDisease, outsideLimits, notZero, refusalOfRead, refusalOf}
+use Rattle.records.specs.declared.Record.{Record}
+use Rattle.codec.specs.Bytes.{recordLength, recordNumber, bytesOf, bytesNumber}
+use Rattle.codec.specs.Reading.{baselineIn, rawIn, refusalOfNumber, refusalOfBytes, recordOfBytes}
+use Rattle.codec.specs.Writing.{writeNumber, refusalOfWrite, outputOf, Writes}
+use Rattle.codec.specs.Laws.{printedRecord, printedBytes, RoundTrips}
+use Rattle.codec.specs.declared.WriteAnswer.{WriteAnswer}
+use Rattle.codec.proofs.ReadBack.{no-refusal-back, record-back}
+use Rattle.codec.proofs.WrittenBack.{found-fine, bytes-back}
+
+-- a record that no refusal meets, written where there is room
+module _ (r : Record) (out last : List ℕ) (a : WriteAnswer) (fine : refusalOf r ≡ 0) (room : recordLength ≤ length out) (w : Writes r out a last) where
+  not-refused : refusalOfWrite r out ≡ 0
+  unfolding refusalOfWrite
+  not-refused = rw (fine, le-ltb (length out) recordLength room)
+
+  done : writeNumber a ≡ 0
+  done = w .answer ∙ not-refused
+
+  stored : last ≡ bytesOf r ++ drop recordLength out
+  unfolding outputOf
+  stored = w .left ∙ rw not-refused
+
+  first-bytes : take recordLength last ≡ bytesOf r
+  unfolding bytesOf
+  first-bytes = rw stored
+
+printed-fine : refusalOf printedRecord ≡ 0
+unfolding refusalOfRead dateExists leapYear daysInMonth outsideLimits notZero withoutDisease wrongSize setBeyond
+printed-fine = refl
+
+printed-bytes : bytesOf printedRecord ≡ printedBytes
+unfolding bytesOf recordNumber
+printed-bytes = refl
+
+printed-accepted : refusalOfBytes printedBytes ≡ 0
+unfolding refusalOfBytes bytesNumber refusalOfNumber rawIn baselineIn refusalOfRead dateExists leapYear daysInMonth outsideLimits notZero withoutDisease wrongSize setBeyond
+printed-accepted = refl
+
+printed-record : recordOfBytes printedBytes ≡ printedRecord
+unfolding recordOfBytes bytesNumber rawIn baselineIn
+printed-record = rw printed-accepted
+
+pub round-trips : RoundTrips
+round-trips =
+    record {
+      readBack = λ r out last a x fine room w q.
+          let b = first-bytes r out last a fine room w in (
+            done r out last a fine room w,
+            q .answer ∙ rw b (no-refusal-back r (w .five) fine),
+            q .found ∙ rw b (record-back r (w .five) fine),
+          );
+      writtenBack = λ s out last a x q e room w.
+          let accepted = sym (q .answer) ∙ e in
+          let fine : refusalOf (x .found) ≡ 0 = rw (q .found) (found-fine s (q .octets) accepted) in (
+            done (x .found) out last a fine room w,
+            stored (x .found) out last a fine room w ∙ rw (q .found, bytes-back s (q .octets) accepted),
+          );
+      printedRead = λ x q. (q .answer ∙ printed-accepted, q .found ∙ printed-record);
+      printedWritten = λ out last a room w. (
+        done printedRecord out last a printed-fine room w,
+        stored printedRecord out last a printed-fine room w ∙ rw printed-bytes,
+      );
+    }

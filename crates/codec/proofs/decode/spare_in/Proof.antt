@@ -1,0 +1,15 @@
+-- `codec::decode::spare_in` meets its contract.
+-- Assumes nothing.
+use native.Mathlib.Nat.{div-one}
+use Rattle.codec.specs.Reading.{spareIn}
+use borrow.Author.Needs.{needs}
+use Rattle.codec.proofs.decode.spare_in.Statement.{statement}
+use Rattle.codec.proofs.decode.spare_in.Tie as tie
+
+pub spare-in-spec : {M : Type 1} → statement M
+spare-in-spec =
+    tie.close
+    (tie.spec
+    (λ c κs. search needs)
+    (λ c κs. search needs)
+    (λ c. unfold spareIn in rw (c .before .untargeted-record .ensures, c .body-set .ensures) (simp div-one)))

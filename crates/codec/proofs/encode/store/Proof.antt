@@ -1,0 +1,40 @@
+-- `codec::encode::store` meets its contract: eleven stores from the front are the list of the eleven bytes.
+-- Assumes nothing.
+use native.Mathlib.Omega.{arith}
+use native.Mathlib.Nat.{div-one}
+use lib.ListN.{length-set}
+use mathlib.Core.List.{_++_}
+use Rattle.packing.specs.Layout.{unpack, bytes}
+use lib.Seq.{sets-eq}
+use borrow.Author.Needs.{needs}
+use Rattle.codec.proofs.encode.store.Statement.{statement}
+use Rattle.codec.proofs.encode.store.Tie as tie
+
+pub store-spec : {M : Type 1} → statement M
+store-spec =
+    tie.close
+    (tie.spec
+    (λ c. search needs)
+    (λ c. search needs)
+    (λ c. search needs)
+    (λ c. simp length-set (omega arith))
+    (λ c. search needs)
+    (λ c. simp length-set (omega arith))
+    (λ c. search needs)
+    (λ c. simp length-set (omega arith))
+    (λ c. search needs)
+    (λ c. simp length-set (omega arith))
+    (λ c. search needs)
+    (λ c. simp length-set (omega arith))
+    (λ c. search needs)
+    (λ c. simp length-set (omega arith))
+    (λ c. search needs)
+    (λ c. simp length-set (omega arith))
+    (λ c. search needs)
+    (λ c. simp length-set (omega arith))
+    (λ c. search needs)
+    (λ c. simp length-set (omega arith))
+    (λ c. search needs)
+    (λ c. simp length-set (omega arith))
+    (λ c. simp length-set)
+    (λ c. simp div-one (simp div-one at (sets-eq (unpack (bytes 3) (c .args .head) ++ unpack (bytes 8) (c .args .body)) (c .args .out .now) 0 (omega arith)))))

@@ -1,0 +1,131 @@
+-- Document 01, "Where a call stops", bytes read: 1, 2, then 3 to 5, or the record.
+-- Assumes nothing.
+use mathlib.Core.Path.{_≡_}
+use Prim.Native.Nat.{ℕ}
+use mathlib.Core.Bool.{Bool, false, not}
+use mathlib.Core.List.{List, [], _∷_}
+use lib.Dec.{ltb, leb, eqb}
+use lib.ListN.{getD, length, drop}
+use Rattle.laws.specs.Choice.{both, pick}
+use Rattle.packing.specs.Layout.{unpack, AreBytes}
+use Rattle.dates.specs.declared.Date.{Date}
+use Rattle.records.specs.Refusals.{refusalOfRead}
+use Rattle.records.specs.declared.Entry.{Entry}
+use Rattle.records.specs.declared.Entry.the-variants.{Baseline, Visit, Therapy, Death}
+use Rattle.records.specs.declared.Status.{Status}
+use Rattle.records.specs.declared.Status.the-variants.{NA, CR, NN, PD, NE}
+use Rattle.records.specs.declared.Record.{Record}
+use Rattle.codec.specs.Bytes.{recordLength, baselineLayout, visitLayout, spareLayout, bytesNumber}
+use Rattle.codec.specs.declared.Raw.{Raw}
+use Rattle.codec.specs.declared.ReadAnswer.{ReadAnswer}
+use Rattle.codec.specs.declared.ReadAnswer.the-variants.{Done, NotElevenBytes, NoSuchKind, NoSuchDate, OutsideLimits, NotZero}
+use Rattle.codec.specs.declared.ReadResult.{ReadResult}
+
+-- the number of each case in document 01; 0 where no refusal meets
+abbrev pub readNumber : ReadAnswer → ℕ
+readNumber Done = 0
+readNumber NotElevenBytes = 1
+readNumber NoSuchKind = 2
+readNumber NoSuchDate = 3
+readNumber OutsideLimits = 4
+readNumber NotZero = 5
+
+abbrev pub isOne : ℕ → Bool
+isOne n = eqb n 1
+
+-- from the fields of a layout
+abbrev pub dateFrom : List ℕ → Date
+dateFrom f = record { year = getD f 1 0; month = getD f 2 0; day = getD f 3 0 }
+
+abbrev pub marksFrom : List ℕ → List Bool
+marksFrom f = isOne (getD f 0 0) ∷ isOne (getD f 2 0) ∷ isOne (getD f 4 0) ∷ isOne (getD f 6 0) ∷ isOne (getD f 8 0) ∷ []
+
+abbrev pub sizesFrom : List ℕ → List ℕ
+sizesFrom f = getD f 1 0 ∷ getD f 3 0 ∷ getD f 5 0 ∷ getD f 7 0 ∷ getD f 9 0 ∷ []
+
+-- NA stands for a number that is no status
+unfoldable pub statusFrom : ℕ → Status
+statusFrom n = pick (eqb n 1) CR (pick (eqb n 2) NN (pick (eqb n 3) PD (pick (eqb n 4) NE NA)))
+
+-- a record with no target set
+abbrev pub untargeted : Entry → Record
+untargeted e = record { entry = e; sizes = 0 ∷ 0 ∷ 0 ∷ 0 ∷ 0 ∷ []; marks = false ∷ false ∷ false ∷ false ∷ false ∷ [] }
+
+-- what is read before it is judged: a record, and what has no place in one, a status that is none and spare bits that are set
+abbrev pub baselineFrom : List ℕ → Raw
+baselineFrom f = record {
+  read = record {
+    entry = Baseline (record { date = dateFrom f; assessed = isOne (getD f 4 0); nontarget = isOne (getD f 5 0); count = getD f 6 0 });
+    sizes = sizesFrom (drop 7 f);
+    marks = marksFrom (drop 7 f);
+  };
+  unlawful = false;
+  spare = ltb 0 (getD f 17 0);
+}
+
+abbrev pub visitFrom : List ℕ → Raw
+visitFrom f = record {
+  read = record {
+    entry = Visit (record { date = dateFrom f; status = statusFrom (getD f 4 0); newlesion = isOne (getD f 5 0) });
+    sizes = sizesFrom (drop 6 f);
+    marks = marksFrom (drop 6 f);
+  };
+  unlawful = ltb 4 (getD f 4 0);
+  spare = ltb 0 (getD f 16 0);
+}
+
+abbrev pub spareFrom : Entry → List ℕ → Raw
+spareFrom e f = record { read = untargeted e; unlawful = false; spare = ltb 0 (getD f 4 0) }
+
+unfoldable pub baselineIn : ℕ → Raw
+baselineIn n = baselineFrom (unpack baselineLayout n)
+
+unfoldable pub visitIn : ℕ → Raw
+visitIn n = visitFrom (unpack visitLayout n)
+
+-- kind and date stand at the same place in every layout
+abbrev pub kindIn : ℕ → ℕ
+kindIn n = getD (unpack spareLayout n) 0 0
+
+abbrev pub dateIn : ℕ → Date
+dateIn n = dateFrom (unpack spareLayout n)
+
+unfoldable pub spareIn : Entry → ℕ → Raw
+spareIn e n = spareFrom e (unpack spareLayout n)
+
+-- what is read of a kind from 1 to 4
+unfoldable pub rawIn : ℕ → ℕ → Raw
+rawIn kind n =
+    pick (eqb kind 1) (baselineIn n)
+    (pick (eqb kind 2) (visitIn n) (pick (eqb kind 3) (spareIn (Therapy (dateIn n)) n) (spareIn (Death (dateIn n)) n)))
+
+abbrev pub refusalOfRaw : Raw → ℕ
+refusalOfRaw w = refusalOfRead (w .read) (w .unlawful) (w .spare)
+
+-- 2, then 3 to 5
+unfoldable pub refusalOfNumber : ℕ → ℕ
+refusalOfNumber n = pick (not (both (leb 1 (kindIn n)) (leb (kindIn n) 4))) 2 (refusalOfRaw (rawIn (kindIn n) n))
+
+-- 1, then the others
+unfoldable pub refusalOfBytes : List ℕ → ℕ
+refusalOfBytes s = pick (not (eqb (length s) recordLength)) 1 (refusalOfNumber (bytesNumber s))
+
+-- the one record that stands beside every refusal
+abbrev pub blank : Record
+blank = untargeted (Therapy (record { year = 0; month = 0; day = 0 }))
+
+-- the promise of judging what was read
+pub record Judged (w : Raw) (x : ReadResult) : Type 0 where
+  pub answer : readNumber (x .answer) ≡ refusalOfRaw w
+  pub found : x .found ≡ pick (eqb (refusalOfRaw w) 0) (w .read) blank
+
+-- the record, or the blank one
+unfoldable pub recordOfBytes : List ℕ → Record
+recordOfBytes s = pick (eqb (refusalOfBytes s) 0) (rawIn (kindIn (bytesNumber s)) (bytesNumber s) .read) blank
+
+-- the promise of reading
+pub record Reads (s : List ℕ) (x : ReadResult) : Type 0 where
+  pub answer : readNumber (x .answer) ≡ refusalOfBytes s
+  pub found : x .found ≡ recordOfBytes s
+  -- the type `u8` gives it
+  pub octets : AreBytes s

@@ -1,0 +1,38 @@
+-- Document 01, "Where a call stops", writing: 3 to 5, then 6, or the 11 bytes with every byte past them as it was.
+-- Assumes nothing.
+use mathlib.Core.Path.{_≡_}
+use Prim.Native.Nat.{ℕ}
+use mathlib.Core.Bool.{not}
+use mathlib.Core.List.{List, _++_}
+use lib.Dec.{ltb, eqb}
+use lib.ListN.{length, drop}
+use Rattle.laws.specs.Choice.{pick}
+use Rattle.records.specs.Form.{Five}
+use Rattle.records.specs.Refusals.{refusalOf}
+use Rattle.records.specs.declared.Record.{Record}
+use Rattle.codec.specs.Bytes.{recordLength, bytesOf}
+use Rattle.codec.specs.declared.WriteAnswer.{WriteAnswer}
+use Rattle.codec.specs.declared.WriteAnswer.the-variants.{Done, NoSuchDate, OutsideLimits, NotZero, ShortOutput}
+
+-- the number of each case in document 01; 0 where no refusal meets
+abbrev pub writeNumber : WriteAnswer → ℕ
+writeNumber Done = 0
+writeNumber NoSuchDate = 3
+writeNumber OutsideLimits = 4
+writeNumber NotZero = 5
+writeNumber ShortOutput = 6
+
+-- 3 to 5, then 6
+unfoldable pub refusalOfWrite : Record → List ℕ → ℕ
+refusalOfWrite r out = pick (not (eqb (refusalOf r) 0)) (refusalOf r) (pick (ltb (length out) recordLength) 6 0)
+
+-- the 11 bytes and what stood past them; as it was where refused
+unfoldable pub outputOf : Record → List ℕ → List ℕ
+outputOf r out = pick (eqb (refusalOfWrite r out) 0) (bytesOf r ++ drop recordLength out) out
+
+-- the promise of writing, with the output at entry and at exit
+pub record Writes (r : Record) (out : List ℕ) (a : WriteAnswer) (last : List ℕ) : Type 0 where
+  pub answer : writeNumber a ≡ refusalOfWrite r out
+  pub left : last ≡ outputOf r out
+  -- the type `[_; 5]` gives it
+  pub five : Five r

@@ -1,0 +1,206 @@
+// Bytes to what stands in them, before it is judged.
+use super::fields::field;
+use crate::Raw;
+use dates::Date;
+use records::BaselineEntry;
+use records::Entry;
+use records::Record;
+use records::Status;
+use records::VisitEntry;
+ghost use mathlib.Core.Path.{_≡_};
+ghost use Prim.Native.Nat.{_+_, _*_, _≤_, _%_, _^_};
+ghost use lib.Dec.{ltb};
+ghost use lib.ListN.{length};
+ghost use Rattle.codec.specs.Bytes.{recordLength, bytesNumber};
+ghost use Rattle.codec.specs.Fields.{fieldAt, marksAt, sizesAt};
+ghost use Rattle.codec.specs.Reading.{isOne, dateIn, statusFrom, untargeted, blank, baselineIn, visitIn, spareIn, rawIn};
+
+// The bit at which each field starts; kind is at 0.
+const YEAR: u32 = 3;
+
+const MONTH: u32 = 15;
+
+const DAY: u32 = 19;
+
+const ASSESSED: u32 = 24;
+
+const NONTARGET: u32 = 25;
+
+const COUNT: u32 = 26;
+
+const BASELINE_TARGETS: u32 = 29;
+
+const BASELINE_SPARE: u32 = 84;
+
+const STATUS: u32 = 24;
+
+const NEW_LESION: u32 = 27;
+
+const VISIT_TARGETS: u32 = 28;
+
+const VISIT_SPARE: u32 = 83;
+
+fn date_in(s: &[u8]) -> Date
+    requires { ⌜ length (now s) ≡ recordLength ⌝ }
+    ensures { λ r. ⌜ r ≡ dateIn (bytesNumber (now (s .entry))) ⌝ }
+{
+    Date {
+        year: field(s, YEAR, 12),
+        month: field(s, MONTH, 4) as u8,
+        day: field(s, DAY, 5) as u8,
+    }
+}
+
+fn bit_at(s: &[u8], at: u32) -> bool
+    requires { ⌜ (length (now s) ≡ recordLength) × (at + 1 ≤ 8 * recordLength) ⌝ }
+    ensures { λ r. ⌜ r ≡ isOne (fieldAt (now (s .entry)) at 1) ⌝ }
+{
+    field(s, at, 1) == 1
+}
+
+fn marks_at(s: &[u8], at: u32) -> [bool; 5]
+    requires { ⌜ (length (now s) ≡ recordLength) × (at + 55 ≤ 8 * recordLength) ⌝ }
+    ensures { λ r. ⌜ r ≡ marksAt (now (s .entry)) at ⌝ }
+{
+    [
+        bit_at(s, at),
+        bit_at(s, at + 11),
+        bit_at(s, at + 22),
+        bit_at(s, at + 33),
+        bit_at(s, at + 44),
+    ]
+}
+
+fn sizes_at(s: &[u8], at: u32) -> [u16; 5]
+    requires { ⌜ (length (now s) ≡ recordLength) × (at + 55 ≤ 8 * recordLength) ⌝ }
+    ensures { λ r. ⌜ r ≡ sizesAt (now (s .entry)) at ⌝ }
+{
+    [
+        field(s, at + 1, 10),
+        field(s, at + 12, 10),
+        field(s, at + 23, 10),
+        field(s, at + 34, 10),
+        field(s, at + 45, 10),
+    ]
+}
+
+fn status_from(n: u16) -> Status
+    ensures { λ r. ⌜ r ≡ statusFrom n ⌝ }
+{
+    match n {
+        1 => Status::CR,
+        2 => Status::NN,
+        3 => Status::PD,
+        4 => Status::NE,
+        _ => Status::NA,
+    }
+}
+
+fn baseline_in(s: &[u8]) -> Raw
+    requires { ⌜ length (now s) ≡ recordLength ⌝ }
+    ensures { λ r. ⌜ r ≡ baselineIn (bytesNumber (now (s .entry))) ⌝ }
+{
+    let date = date_in(s);
+    let entry = Entry::Baseline(BaselineEntry {
+        date: date,
+        assessed: bit_at(s, ASSESSED),
+        nontarget: bit_at(s, NONTARGET),
+        count: field(s, COUNT, 3) as u8,
+    });
+    let sizes = sizes_at(s, BASELINE_TARGETS);
+    let marks = marks_at(s, BASELINE_TARGETS);
+    let read = Record {
+        entry: entry,
+        sizes: sizes,
+        marks: marks,
+    };
+    Raw {
+        read: read,
+        unlawful: false,
+        spare: 0 < field(s, BASELINE_SPARE, 4),
+    }
+}
+
+fn visit_in(s: &[u8]) -> Raw
+    requires { ⌜ length (now s) ≡ recordLength ⌝ }
+    ensures { λ r. ⌜ r ≡ visitIn (bytesNumber (now (s .entry))) ⌝ }
+{
+    let number = field(s, STATUS, 3);
+    let date = date_in(s);
+    let status = status_from(number);
+    let entry = Entry::Visit(VisitEntry {
+        date: date,
+        status: status,
+        newlesion: bit_at(s, NEW_LESION),
+    });
+    let sizes = sizes_at(s, VISIT_TARGETS);
+    let marks = marks_at(s, VISIT_TARGETS);
+    let read = Record {
+        entry: entry,
+        sizes: sizes,
+        marks: marks,
+    };
+    Raw {
+        read: read,
+        unlawful: 4 < number,
+        spare: 0 < field(s, VISIT_SPARE, 5),
+    }
+}
+
+// Whether a bit behind the date is set.
+fn body_set(s: &[u8]) -> bool
+    requires { ⌜ length (now s) ≡ recordLength ⌝ }
+    ensures { λ r. ⌜ r ≡ ltb 0 (bytesNumber (now (s .entry)) % 2 ^ 64) ⌝ }
+{
+    0 < field(s, 24, 16) || (0 < field(s, 40, 16) || (0 < field(s, 56, 16) || 0 < field(s, 72, 16)))
+}
+
+fn untargeted_record(entry: Entry) -> Record
+    ensures { λ r. ⌜ r ≡ untargeted entry ⌝ }
+{
+    Record {
+        entry: entry,
+        sizes: [0, 0, 0, 0, 0],
+        marks: [false, false, false, false, false],
+    }
+}
+
+pub(crate) fn blank_record() -> Record
+    ensures { λ r. ⌜ r ≡ blank ⌝ }
+{
+    untargeted_record(Entry::Therapy(Date {
+        year: 0,
+        month: 0,
+        day: 0,
+    }))
+}
+
+fn spare_in(s: &[u8], entry: Entry) -> Raw
+    requires { ⌜ length (now s) ≡ recordLength ⌝ }
+    ensures { λ r. ⌜ r ≡ spareIn entry (bytesNumber (now (s .entry))) ⌝ }
+{
+    let read = untargeted_record(entry);
+    let spare = body_set(s);
+    Raw {
+        read: read,
+        unlawful: false,
+        spare: spare,
+    }
+}
+
+pub(crate) fn raw_in(kind: u16, s: &[u8]) -> Raw
+    requires { ⌜ length (now s) ≡ recordLength ⌝ }
+    ensures { λ r. ⌜ r ≡ rawIn kind (bytesNumber (now (s .entry))) ⌝ }
+{
+    if kind == 1 {
+        return baseline_in(s);
+    }
+    if kind == 2 {
+        return visit_in(s);
+    }
+    let date = date_in(s);
+    if kind == 3 {
+        return spare_in(s, Entry::Therapy(date));
+    }
+    spare_in(s, Entry::Death(date))
+}

@@ -1,0 +1,108 @@
+// A record as 11 bytes: read from any byte string, written into any lent output (document 01, "Where a call stops", 1 to 6).
+use records::CheckAnswer;
+use records::Record;
+ghost use mathlib.Core.Path.{_≡_};
+ghost use Rattle.codec.specs.Reading.{blank, Judged, Reads};
+ghost use Rattle.codec.specs.Writing.{Writes};
+
+mod fields; // fields.rt: the bits of one field
+mod decode; // decode.rt: bytes to what stands in them, before it is judged
+mod encode; // encode.rt: a record that no refusal meets to bytes
+
+pub enum ReadAnswer {
+    Done,
+    NotElevenBytes,
+    NoSuchKind,
+    NoSuchDate,
+    OutsideLimits,
+    NotZero,
+}
+
+// The record that was read; beside a refusal one fixed blank record.
+pub struct ReadResult {
+    pub answer: ReadAnswer,
+    pub found: Record,
+}
+
+pub enum WriteAnswer {
+    Done,
+    NoSuchDate,
+    OutsideLimits,
+    NotZero,
+    ShortOutput,
+}
+
+// What is read before it is judged: a record, and what has no place in one.
+pub(crate) struct Raw {
+    pub(crate) read: Record,
+    // A status that is none.
+    pub(crate) unlawful: bool,
+    // A spare bit that is set.
+    pub(crate) spare: bool,
+}
+
+const RECORD_LENGTH: usize = 11;
+
+fn refused(answer: ReadAnswer) -> ReadResult
+    ensures { λ x. ⌜ (x .answer ≡ answer) × (x .found ≡ blank) ⌝ }
+{
+    let found = decode::blank_record();
+    ReadResult {
+        answer: answer,
+        found: found,
+    }
+}
+
+// The record, or the first of 3 to 5 that meets it.
+fn judged(raw: Raw) -> ReadResult
+    ensures { λ x. ⌜ Judged raw x ⌝ }
+{
+    let found = raw.read;
+    match records::check_read(found, raw.unlawful, raw.spare) {
+        CheckAnswer::NoSuchDate => refused(ReadAnswer::NoSuchDate),
+        CheckAnswer::OutsideLimits => refused(ReadAnswer::OutsideLimits),
+        CheckAnswer::NotZero => refused(ReadAnswer::NotZero),
+        CheckAnswer::Passed => ReadResult {
+            answer: ReadAnswer::Done,
+            found: found,
+        },
+    }
+}
+
+pub fn read(s: &[u8]) -> ReadResult
+    ensures { λ x. ⌜ Reads (now (s .entry)) x ⌝ }
+{
+    if s.len() != RECORD_LENGTH {
+        return refused(ReadAnswer::NotElevenBytes);
+    }
+    let kind = fields::field(s, 0, 3);
+    if kind < 1 {
+        return refused(ReadAnswer::NoSuchKind);
+    }
+    if 4 < kind {
+        return refused(ReadAnswer::NoSuchKind);
+    }
+    judged(decode::raw_in(kind, s))
+}
+
+pub fn write(r: Record, out: &mut [u8]) -> WriteAnswer
+    ensures { λ a. ⌜ Writes r (now (out .entry)) a (now (out .exit)) ⌝ }
+{
+    match records::check(r) {
+        CheckAnswer::NoSuchDate => WriteAnswer::NoSuchDate,
+        CheckAnswer::OutsideLimits => WriteAnswer::OutsideLimits,
+        CheckAnswer::NotZero => WriteAnswer::NotZero,
+        CheckAnswer::Passed => {
+            if out.len() < RECORD_LENGTH {
+                return WriteAnswer::ShortOutput;
+            }
+            let entry = r.entry;
+            let marks = r.marks;
+            let sizes = r.sizes;
+            let head = encode::head_number(entry);
+            let body = encode::body_number(entry, marks, sizes);
+            encode::store(head, body, out);
+            WriteAnswer::Done
+        }
+    }
+}
