@@ -1,4 +1,4 @@
-// The bits of one field, from the three bytes that end where it ends: a record may have any number of bytes.
+// The bits of one field, from the three bytes that end where it ends. The law behind it holds for any number of bytes.
 ghost use mathlib.Core.Path.{_≡_};
 ghost use Prim.Native.Nat.{_+_, _*_, _/_, _%_, _^_, _≤_, _<_};
 ghost use lib.ListN.{length};

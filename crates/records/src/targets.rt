@@ -41,7 +41,7 @@ fn sized_unmeasured(measured: bool, size: u16) -> bool
     !measured && 0 < size
 }
 
-// No branch, so that the five tests run side by side.
+// Joined without a branch, for speed.
 fn any_of_five(a: bool, b: bool, c: bool, d: bool, e: bool) -> bool
     ensures { λ r. ⌜ r ≡ either (either (either (either a b) c) d) e ⌝ }
 {

@@ -6,6 +6,10 @@ use Rattle.codec.proofs.Answers.{reads-length, reads-low-kind, reads-hi
 use Rattle.codec.proofs.read.Statement.{statement}
 use Rattle.codec.proofs.read.Tie as tie
 
+-- a kind that passed both tests is one of the four: stated first, since a kind too many is wrong here
+known-kind : tie.Need-returns-4
+known-kind c = reads-judged _ _ (λ k. omega (arith, c .before .before .before .before .before .before .shared-slice-known .given k)) (c .before .before .before .before .before .if1 .left) _ (c .before .before .before .before .field .ensures) (c .before .before .before .if2 .left) (c .before .before .if3 .left) _ (c .before .raw-in .ensures) (c .judged .ensures)
+
 pub read-spec : {M : Type 1} → statement M
 read-spec =
     tie.close
@@ -19,4 +23,4 @@ read-spec =
     (λ c. reads-high-kind _ _ (λ k. omega (arith, c .before .before .before .before .before .shared-slice-known .given k)) (c .before .before .before .before .if1 .left) _ (c .before .before .before .field .ensures) (c .before .if3 .taken) (c .refused3 .ensures))
     (λ c κs. search needs)
     (λ c κs. search needs)
-    (λ c. reads-judged _ _ (λ k. omega (arith, c .before .before .before .before .before .before .shared-slice-known .given k)) (c .before .before .before .before .before .if1 .left) _ (c .before .before .before .before .field .ensures) (c .before .before .before .if2 .left) (c .before .before .if3 .left) _ (c .before .raw-in .ensures) (c .judged .ensures)))
+    known-kind)
