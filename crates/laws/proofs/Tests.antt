@@ -16,6 +16,10 @@ pub both-true : (a b : Bool) → both a b ≡ true → (a ≡ true) × (b ≡ tr
 both-true true b e = (refl, e)
 both-true false b e = absurd (never (cc))
 
+pub both-with-true : (a : Bool) → both a true ≡ a
+both-with-true true = refl
+both-with-true false = refl
+
 pub either-false : (a b : Bool) → either a b ≡ false → (a ≡ false) × (b ≡ false)
 either-false true b e = absurd (never e)
 either-false false b e = (refl, e)

@@ -1,0 +1,43 @@
+-- Each example is computed by the definitions.
+-- Assumes nothing.
+use mathlib.Core.Path.{refl}
+use Rattle.criteria.specs.Sums.{measuredSum, baselineSum, allMeasured}
+use Rattle.criteria.specs.Targets.{allGone, grown, shrunk, targetAnswer}
+use Rattle.criteria.specs.Nadir.{nadirOf}
+use Rattle.criteria.specs.Overall.{overallAnswer}
+use Rattle.criteria.specs.Change.{changeBetween, changeOf}
+use Rattle.criteria.specs.Examples.{Edges, WrongReadings, Printed}
+
+pub edges : Edges
+unfolding measuredSum baselineSum allMeasured allGone grown shrunk targetAnswer nadirOf
+edges =
+    record {
+      sum70 = refl;
+      sum71 = refl;
+      sum24 = refl;
+      sum25 = refl;
+      sum59 = refl;
+      sum60 = refl;
+      node9 = refl;
+      node10 = refl;
+      oneMeasured = refl;
+    }
+
+pub wrong-readings : WrongReadings
+unfolding measuredSum baselineSum allMeasured allGone grown shrunk targetAnswer nadirOf overallAnswer
+wrong-readings = record { grownFromNadir = refl; progressionFirst = refl; incompleteSum = refl; oneGone = refl }
+
+pub printed-visits : Printed
+unfolding measuredSum baselineSum allMeasured allGone grown shrunk targetAnswer nadirOf overallAnswer changeBetween changeOf
+printed-visits =
+    record {
+      target43 = refl;
+      overall43 = refl;
+      change43 = refl;
+      target85 = refl;
+      overall85 = refl;
+      change85 = refl;
+      target127 = refl;
+      overall127 = refl;
+      change127 = refl;
+    }

@@ -1,0 +1,137 @@
+-- What the definitions say of every visit.
+-- Assumes nothing.
+use mathlib.Core.Path.{_≡_, refl, _∙_, ap}
+use mathlib.Core.Bool.{Bool, true, false}
+use mathlib.Core.List.{List, [], _∷_}
+use Prim.Native.Nat.{ℕ, _+_, _*_, _≤_, _<_, min}
+use native.Mathlib.Nat.{div-add-mod, mod-lt}
+use native.Mathlib.Omega.{arith}
+use lib.Dec.{eqb}
+use Rattle.laws.specs.Choice.{either, pick}
+use Rattle.criteria.specs.Words.{Word, PD, NE, statusWord}
+use Rattle.criteria.specs.Sums.{measuredSum, allMeasured}
+use Rattle.criteria.specs.Nadir.{Visit, completeSums, leastOf, nadirOf, leftBy, afterVisit}
+use Rattle.criteria.specs.Overall.{rowOf, columnOf, cell, isPD, overallAnswer}
+use Rattle.criteria.specs.Change.{none, signed, nearest, changeBetween, changeOf}
+use Rattle.criteria.specs.Visits.{visitTarget, visitOverall, visitChange}
+use Rattle.criteria.specs.Laws.{OverallLaws, leftAfter, NadirLaws, ChangeLaws}
+use Rattle.criteria.specs.declared.BaselineDisease.{BaselineDisease}
+use Rattle.criteria.specs.declared.Earlier.{Earlier}
+
+-- the overall answer of a visit, by what its parts are known to be
+overall-is : (b : BaselineDisease) (vs : List Visit) (v : Visit) (a n : Bool) (t s : Word) → b .assessed ≡ a → v .newLesion ≡ n →
+    visitTarget b vs v ≡ t → statusWord (v .status) ≡ s → visitOverall b vs v ≡ overallAnswer a n t s
+overall-is b vs v a n t s e f g h =
+    ap (λ (x : Bool). overallAnswer x (v .newLesion) (visitTarget b vs v) (statusWord (v .status))) e
+    ∙ ap (λ (x : Bool). overallAnswer a x (visitTarget b vs v) (statusWord (v .status))) f
+    ∙ ap (λ (x : Word). overallAnswer a n x (statusWord (v .status))) g
+    ∙ ap (λ (x : Word). overallAnswer a n t x) h
+
+not-assessed : (n : Bool) (t s : Word) → overallAnswer false n t s ≡ NE
+unfolding overallAnswer
+not-assessed true t s = refl
+not-assessed false t s = refl
+
+newly-seen : (t s : Word) → overallAnswer true true t s ≡ PD
+unfolding overallAnswer
+newly-seen t s = refl
+
+pd-target : (n : Bool) (s : Word) → overallAnswer true n PD s ≡ PD
+unfolding overallAnswer
+pd-target true s = refl
+pd-target false s = refl
+
+pd-nontarget : (n : Bool) (t : Word) → overallAnswer true n t PD ≡ PD
+unfolding overallAnswer
+pd-nontarget true t = refl
+pd-nontarget false t = go (isPD t)
+  where
+    go : (p : Bool) → pick (either p true) PD (cell (rowOf t) (columnOf PD)) ≡ PD
+    go true = refl
+    go false = refl
+
+module _ (b : BaselineDisease) (vs : List Visit) (v : Visit) where
+  missing : b .assessed ≡ false → visitOverall b vs v ≡ NE
+  missing e = overall-is b vs v false _ _ _ e refl refl refl ∙ not-assessed _ _ _
+
+  new-lesion : b .assessed ≡ true → v .newLesion ≡ true → visitOverall b vs v ≡ PD
+  new-lesion e n = overall-is b vs v true true _ _ e n refl refl ∙ newly-seen _ _
+
+  target-pd : b .assessed ≡ true → visitTarget b vs v ≡ PD → visitOverall b vs v ≡ PD
+  target-pd e t = overall-is b vs v true _ PD _ e refl t refl ∙ pd-target _ _
+
+  nontarget-pd : b .assessed ≡ true → statusWord (v .status) ≡ PD → visitOverall b vs v ≡ PD
+  nontarget-pd e s = overall-is b vs v true _ _ PD e refl refl s ∙ pd-nontarget _ _
+
+pub overall-laws : OverallLaws
+overall-laws = record { missing = missing; newLesion = new-lesion; targetPD = target-pd; nontargetPD = nontarget-pd }
+
+abbrev withNadir : ℕ → Earlier
+withNadir n = record { nadir = n }
+
+-- one visit more, by whether every target was measured
+one-more : (b : BaselineDisease) (vs : List Visit) (v : Visit) →
+    leftBy b (v ∷ vs) ≡ afterVisit (b .count) (leftBy b vs) (v .measured) (v .sizes)
+unfolding nadirOf afterVisit
+one-more b vs v = go (allMeasured (b .count) (v .measured)) (measuredSum (v .measured) (v .sizes)) (completeSums (b .count) vs)
+  where
+    go : (m : Bool) (s : ℕ) (ss : List ℕ) →
+        withNadir (leastOf (b .sum) (pick m (s ∷ ss) ss)) ≡ withNadir (pick m (min s (leastOf (b .sum) ss)) (leastOf (b .sum) ss))
+    go true s ss = refl
+    go false s ss = refl
+
+least-moved : (s n : ℕ) (ms : List ℕ) → leastOf (min s n) ms ≡ min s (leastOf n ms)
+least-moved s n [] = refl
+least-moved s n (m ∷ ms) =
+    let h = least-moved s n ms in
+    let w : min m (min s (leastOf n ms)) ≡ min s (min m (leastOf n ms)) = omega arith in
+    rw h w
+
+folded-from : (count n : ℕ) (vs : List Visit) → leftAfter count (withNadir n) vs ≡ withNadir (leastOf n (completeSums count vs))
+unfolding afterVisit
+folded-from count n [] = refl
+folded-from count n (v ∷ vs) =
+    folded-from count (pick (allMeasured count (v .measured)) (min (measuredSum (v .measured) (v .sizes)) n) n) vs
+    ∙ go (allMeasured count (v .measured)) (measuredSum (v .measured) (v .sizes)) (completeSums count vs)
+  where
+    go : (m : Bool) (s : ℕ) (ss : List ℕ) → withNadir (leastOf (pick m (min s n) n) ss) ≡ withNadir (leastOf n (pick m (s ∷ ss) ss))
+    go true s ss = ap withNadir (least-moved s n ss)
+    go false s ss = refl
+
+folded : (b : BaselineDisease) (vs : List Visit) → leftAfter (b .count) (leftBy b []) vs ≡ leftBy b vs
+unfolding nadirOf
+folded b vs = folded-from (b .count) (b .sum) vs
+
+pub nadir-laws : NadirLaws
+nadir-laws = record { oneMore = one-more; folded = folded }
+
+half : changeBetween 2000 1999 ≡ signed true 1
+unfolding changeBetween
+half = refl
+
+less-than-half : changeBetween 2500 2499 ≡ signed false 0
+unfolding changeBetween
+less-than-half = refl
+
+-- n / d to the nearest, by the quotient and the remainder of 2 × n + d by 2 × d
+rounded : (n d : ℕ) → 1 ≤ d → (2 * d * nearest n d ≤ 2 * n + d) × (2 * n < 2 * d * nearest n d + d)
+rounded n d l =
+    let q = div-add-mod (2 * n + d) (2 * d) in
+    let p : 1 ≤ 2 * d = omega arith in
+    let r = mod-lt (2 * n + d) p in
+    (omega arith, omega arith)
+
+no-targets : (b : BaselineDisease) (v : Visit) → b .count ≡ 0 → visitChange b v ≡ none
+unfolding changeOf
+no-targets b v e = rw e
+
+unmeasured : (b : BaselineDisease) (v : Visit) → allMeasured (b .count) (v .measured) ≡ false → visitChange b v ≡ none
+unfolding changeOf
+unmeasured b v e = rw e (go (eqb (b .count) 0))
+  where
+    go : (c : Bool) → pick (either c true) none (changeBetween (b .sum) (measuredSum (v .measured) (v .sizes))) ≡ none
+    go true = refl
+    go false = refl
+
+pub change-laws : ChangeLaws
+change-laws = record { rounded = rounded; half = half; lessThanHalf = less-than-half; noTargets = no-targets; unmeasured = unmeasured }

@@ -1,0 +1,9 @@
+pub mod Words
+pub mod Sums
+pub mod Targets
+pub mod Nadir
+pub mod Overall
+pub mod Change
+pub mod Visits
+pub mod Examples
+pub mod Laws

@@ -1,0 +1,45 @@
+-- Document 01, "Visit responses": the nadir, on the visits of one subject. A list has the earlier visits in any order: the least is the same.
+-- Assumes nothing.
+use Prim.Native.Nat.{ℕ, min}
+use mathlib.Core.Bool.{Bool}
+use mathlib.Core.List.{List, [], _∷_}
+use Rattle.laws.specs.Choice.{pick}
+use Rattle.records.specs.declared.BaselineEntry.{BaselineEntry}
+use Rattle.records.specs.declared.Status.{Status}
+use Rattle.criteria.specs.Sums.{measuredSum, baselineSum, allMeasured}
+use Rattle.criteria.specs.declared.BaselineDisease.{BaselineDisease}
+use Rattle.criteria.specs.declared.Earlier.{Earlier}
+
+-- a visit as the rules see it, without its date
+pub record Visit : Type 0 where
+  pub status : Status
+  pub newLesion : Bool
+  pub measured : List Bool
+  pub sizes : List ℕ
+
+-- what a baseline with these nodes and sizes leaves for judging visits
+abbrev pub diseaseOf : BaselineEntry → List Bool → List ℕ → BaselineDisease
+diseaseOf b nodes sizes = record { assessed = b .assessed; count = b .count; nodes = nodes; sum = baselineSum (b .count) sizes }
+
+-- the sums of the visits with every target measured
+abbrev pub completeSums : ℕ → List Visit → List ℕ
+completeSums count [] = []
+completeSums count (v ∷ vs) =
+    pick (allMeasured count (v .measured)) (measuredSum (v .measured) (v .sizes) ∷ completeSums count vs) (completeSums count vs)
+
+abbrev pub leastOf : ℕ → List ℕ → ℕ
+leastOf n [] = n
+leastOf n (m ∷ ms) = min m (leastOf n ms)
+
+-- the least of the baseline sum and the sums of all earlier visits with every target measured
+unfoldable pub nadirOf : BaselineDisease → List Visit → ℕ
+nadirOf b earlier = leastOf (b .sum) (completeSums (b .count) earlier)
+
+-- what earlier visits leave for judging the next one
+abbrev pub leftBy : BaselineDisease → List Visit → Earlier
+leftBy b earlier = record { nadir = nadirOf b earlier }
+
+-- what is left after one visit more
+unfoldable pub afterVisit : ℕ → Earlier → List Bool → List ℕ → Earlier
+afterVisit count earlier measured sizes =
+    record { nadir = pick (allMeasured count measured) (min (measuredSum measured sizes) (earlier .nadir)) (earlier .nadir) }

@@ -1,0 +1,45 @@
+// What the response rules take and answer (document 01, "Visit responses" and "Change in size, file and listing"). The rules' definitions
+// stand in specs/, and what document 01 says of them is proved here; the code that follows them is the crate `response`.
+
+// What a baseline leaves for judging visits.
+pub struct BaselineDisease {
+    // False where the baseline is missing.
+    pub assessed: bool,
+    // How many of the five targets there are.
+    pub count: u8,
+    pub nodes: [bool; 5],
+    // The baseline sum.
+    pub sum: u32,
+}
+
+// What earlier visits leave for judging the next one.
+pub struct Earlier {
+    pub nadir: u32,
+}
+
+pub enum Target {
+    // No targets.
+    NA,
+    CR,
+    PD,
+    // Not evaluable.
+    NE,
+    PR,
+    SD,
+}
+
+pub enum Overall {
+    CR,
+    PR,
+    SD,
+    PD,
+    // Not evaluable.
+    NE,
+}
+
+// Tenths of a percent. A decrease is at least one tenth.
+pub enum ChangeAnswer {
+    Absent,
+    Increase(u64),
+    Decrease(u64),
+}
