@@ -1,0 +1,3 @@
+pub mod TargetRules
+pub mod Least
+pub mod Rounding

@@ -1,0 +1,49 @@
+-- The change between two sums, from what the tests of the code say.
+-- Assumes nothing.
+use mathlib.Core.Path.{_≡_}
+use mathlib.Core.Bool.{Bool, true, false, not}
+use mathlib.Core.List.{List}
+use Prim.Native.Nat.{ℕ, _+_, _-_, _*_, _≤_, _<_}
+use native.Mathlib.Omega.{arith}
+use borrow.Author.Tests.{lt-ltb, le-ltb, eq-eqb, ne-eqb}
+use Rattle.criteria.specs.Sums.{measuredSum, allMeasured}
+use Rattle.criteria.specs.Change.{Tenths, none, signed, nearest, changeBetween, changeOf}
+use Rattle.criteria.specs.declared.BaselineDisease.{BaselineDisease}
+
+module _ (baseline sum t : ℕ) where
+  pub increase : baseline ≤ sum → t ≡ nearest (1000 * (sum - baseline)) baseline → signed false t ≡ changeBetween baseline sum
+  unfolding changeBetween
+  increase l e =
+      let d : (sum - baseline) + (baseline - sum) ≡ sum - baseline = omega arith in
+      rw (d, ← e, le-ltb sum baseline l)
+
+  module _ (l : sum < baseline) (e : t ≡ nearest (1000 * (baseline - sum)) baseline) where
+    less : (sum - baseline) + (baseline - sum) ≡ baseline - sum
+    less = omega arith
+
+    pub no-tenth : t ≡ 0 → signed false 0 ≡ changeBetween baseline sum
+    unfolding changeBetween
+    no-tenth z = rw (less, ← e, lt-ltb sum baseline l, z)
+
+    pub decrease : (t ≡ 0 → ⊥) → signed true t ≡ changeBetween baseline sum
+    unfolding changeBetween
+    decrease z = rw (less, ← e, lt-ltb sum baseline l)
+
+module _ (b : BaselineDisease) (measured : List Bool) (sizes : List ℕ) where
+  pub no-targets : b .count ≡ 0 → none ≡ changeOf b measured sizes
+  unfolding changeOf
+  no-targets h = rw (eq-eqb (b .count) 0 h)
+
+  module _ (h : b .count ≡ 0 → ⊥) (m : Bool) (me : m ≡ allMeasured (b .count) measured) where
+    pub some-unmeasured : not m ≡ true → none ≡ changeOf b measured sizes
+    unfolding changeOf
+    some-unmeasured n = rw (ne-eqb (b .count) 0 h, ← me, n)
+
+    module _ (n : not m ≡ false) where
+      pub no-baseline-sum : b .sum ≡ 0 → none ≡ changeOf b measured sizes
+      unfolding changeOf
+      no-baseline-sum z = rw (ne-eqb (b .count) 0 h, ← me, n, eq-eqb (b .sum) 0 z)
+
+      pub between : (b .sum ≡ 0 → ⊥) → (s : ℕ) → s ≡ measuredSum measured sizes → (a : Tenths) → a ≡ changeBetween (b .sum) s → a ≡ changeOf b measured sizes
+      unfolding changeOf
+      between z s se a ae = rw (ne-eqb (b .count) 0 h, ← me, n, ne-eqb (b .sum) 0 z, ← se) ae

@@ -1,0 +1,16 @@
+-- `response::nadir::after_visit` meets its contract.
+-- Assumes nothing.
+use Rattle.response.proofs.Least.{incomplete, not-less, least-now}
+use borrow.Author.Needs.{needs}
+use Rattle.response.proofs.nadir.after_visit.Statement.{statement}
+use Rattle.response.proofs.nadir.after_visit.Tie as tie
+
+pub after-visit-spec : {M : Type 1} → statement M
+after-visit-spec =
+    tie.close
+    (tie.spec
+    (λ c κs. search needs)
+    (λ c. search incomplete)
+    (λ c κs. search needs)
+    (λ c. search not-less)
+    (λ c. search least-now))

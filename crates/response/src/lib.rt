@@ -1,0 +1,68 @@
+// Visit responses and the change from baseline (document 01, "Visit responses" and "Change in size, file and listing").
+use criteria::BaselineDisease;
+use criteria::ChangeAnswer;
+use criteria::Earlier;
+use criteria::Overall;
+use criteria::Target;
+use records::BaselineEntry;
+use records::VisitEntry;
+ghost use mathlib.Core.Path.{_≡_};
+ghost use mathlib.Core.List.{[]};
+ghost use Rattle.criteria.specs.Nadir.{diseaseOf, leftBy};
+ghost use Rattle.response.specs.Judging.{Judges};
+
+mod sums; // sums.rt: sums of sizes, and whether every target is measured
+mod targets; // targets.rt: the target answer
+mod nadir; // nadir.rt: the nadir after a visit
+mod change; // change.rt: the change from baseline
+
+pub struct VisitAnswer {
+    pub target: Target,
+    pub overall: Overall,
+    pub change: ChangeAnswer,
+    // What this visit and the earlier ones leave for judging the next one.
+    pub after: Earlier,
+}
+
+// What a baseline leaves for judging visits.
+pub fn judge_baseline(entry: BaselineEntry, nodes: [bool; 5], sizes: [u16; 5]) -> BaselineDisease
+    ensures { λ r. ⌜ r ≡ diseaseOf entry nodes sizes ⌝ }
+{
+    BaselineDisease {
+        assessed: entry.assessed,
+        count: entry.count,
+        nodes: nodes,
+        sum: sums::baseline_sum(entry.count, sizes),
+    }
+}
+
+// What is left for judging the first visit.
+pub fn before_visits(baseline: BaselineDisease) -> Earlier
+    ensures { λ r. ⌜ r ≡ leftBy baseline [] ⌝ }
+{
+    Earlier {
+        nadir: baseline.sum,
+    }
+}
+
+pub fn judge_visit(
+    baseline: BaselineDisease,
+    earlier: Earlier,
+    entry: VisitEntry,
+    measured: [bool; 5],
+    sizes: [u16; 5],
+) -> VisitAnswer
+    ensures { λ r. ⌜ Judges baseline earlier entry measured sizes r ⌝ }
+{
+    let status = entry.status;
+    let target = targets::target_answer(baseline, earlier, measured, sizes);
+    let overall = grid::overall_answer(baseline.assessed, entry.newlesion, target, status);
+    let change = change::change_from_baseline(baseline, measured, sizes);
+    let after = nadir::after_visit(baseline.count, earlier, measured, sizes);
+    VisitAnswer {
+        target: target,
+        overall: overall,
+        change: change,
+        after: after,
+    }
+}
