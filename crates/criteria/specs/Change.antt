@@ -20,7 +20,7 @@ abbrev pub none : Tenths
 none = record { known = false; negative = false; tenths = 0 }
 
 abbrev pub signed : Bool → ℕ → Tenths
-signed negative n = record { known = true; negative = both negative (ltb 0 n); tenths = n }
+signed negative n = record { known = true; negative = negative; tenths = n }
 
 abbrev pub changeValues : ChangeAnswer → Tenths
 changeValues Absent = none
@@ -31,9 +31,12 @@ changeValues (Decrease n) = signed true n
 abbrev pub nearest : ℕ → ℕ → ℕ
 nearest n d = (2 * n + d) / (2 * d)
 
--- 1000 × (sum − baseline sum) / baseline sum; one of the two differences is 0
+-- 1000 × (sum − baseline sum) / baseline sum, from the difference either way, of which one is 0
+abbrev pub roundedChange : ℕ → ℕ → ℕ
+roundedChange baseline sum = nearest (1000 * ((sum - baseline) + (baseline - sum))) baseline
+
 unfoldable pub changeBetween : ℕ → ℕ → Tenths
-changeBetween baseline sum = signed (ltb sum baseline) (nearest (1000 * ((sum - baseline) + (baseline - sum))) baseline)
+changeBetween baseline sum = signed (both (ltb sum baseline) (ltb 0 (roundedChange baseline sum))) (roundedChange baseline sum)
 
 -- at a visit with targets, all measured; else none, and none where a baseline sum is 0, as no accepted baseline with targets has it
 unfoldable pub changeOf : BaselineDisease → List Bool → List ℕ → Tenths

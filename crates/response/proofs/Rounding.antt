@@ -27,7 +27,7 @@ module _ (baseline sum t : ℕ) where
 
     pub decrease : (t ≡ 0 → ⊥) → signed true t ≡ changeBetween baseline sum
     unfolding changeBetween
-    decrease z = rw (less, ← e, lt-ltb sum baseline l)
+    decrease z = let p : 0 < t = omega arith in rw (less, ← e, lt-ltb sum baseline l, lt-ltb 0 t p)
 
 module _ (b : BaselineDisease) (measured : List Bool) (sizes : List ℕ) where
   pub no-targets : b .count ≡ 0 → none ≡ changeOf b measured sizes

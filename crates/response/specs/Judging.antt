@@ -1,20 +1,26 @@
--- Document 01, "Visit responses" and the change of "Change in size, file and listing": what judging a visit promises.
+-- Document 01, "Visit responses" and the change of "Change in size, file and listing": what judging a baseline and a visit promises.
 -- Assumes nothing.
 use mathlib.Core.Path.{_≡_}
 use mathlib.Core.Bool.{Bool}
-use mathlib.Core.List.{List}
+use mathlib.Core.List.{List, []}
 use Prim.Native.Nat.{ℕ}
+use Rattle.records.specs.declared.BaselineEntry.{BaselineEntry}
 use Rattle.records.specs.declared.VisitEntry.{VisitEntry}
 use Rattle.criteria.specs.Words.{targetWord, statusWord, overallWord}
 use Rattle.criteria.specs.Targets.{targetAnswer}
-use Rattle.criteria.specs.Nadir.{afterVisit}
+use Rattle.criteria.specs.Nadir.{diseaseOf, leftBy, afterVisit}
 use Rattle.criteria.specs.Overall.{overallAnswer}
 use Rattle.criteria.specs.Change.{changeValues, changeOf}
 use Rattle.criteria.specs.declared.BaselineDisease.{BaselineDisease}
 use Rattle.criteria.specs.declared.Earlier.{Earlier}
+use Rattle.response.specs.declared.BaselineAnswer.{BaselineAnswer}
 use Rattle.response.specs.declared.VisitAnswer.{VisitAnswer}
 
-pub record Judges (b : BaselineDisease) (e : Earlier) (v : VisitEntry) (measured : List Bool) (sizes : List ℕ) (a : VisitAnswer) : Type 0 where
+pub record JudgesBaseline (entry : BaselineEntry) (nodes : List Bool) (sizes : List ℕ) (a : BaselineAnswer) : Type 0 where
+  pub disease : a .disease ≡ diseaseOf entry nodes sizes
+  pub after : a .after ≡ leftBy (diseaseOf entry nodes sizes) []
+
+pub record JudgesVisit (b : BaselineDisease) (e : Earlier) (v : VisitEntry) (measured : List Bool) (sizes : List ℕ) (a : VisitAnswer) : Type 0 where
   pub target : targetWord (a .target) ≡ targetAnswer b e measured sizes
   pub overall : overallWord (a .overall) ≡ overallAnswer (b .assessed) (v .newlesion) (targetAnswer b e measured sizes) (statusWord (v .status))
   pub change : changeValues (a .change) ≡ changeOf b measured sizes

@@ -6,15 +6,18 @@ use criteria::Overall;
 use criteria::Target;
 use records::BaselineEntry;
 use records::VisitEntry;
-ghost use mathlib.Core.Path.{_≡_};
-ghost use mathlib.Core.List.{[]};
-ghost use Rattle.criteria.specs.Nadir.{diseaseOf, leftBy};
-ghost use Rattle.response.specs.Judging.{Judges};
+ghost use Rattle.response.specs.Judging.{JudgesBaseline, JudgesVisit};
 
 mod sums; // sums.rt: sums of sizes, and whether every target is measured
 mod targets; // targets.rt: the target answer
 mod nadir; // nadir.rt: the nadir after a visit
 mod change; // change.rt: the change from baseline
+
+pub struct BaselineAnswer {
+    pub disease: BaselineDisease,
+    // What is left for judging the first visit.
+    pub after: Earlier,
+}
 
 pub struct VisitAnswer {
     pub target: Target,
@@ -24,24 +27,19 @@ pub struct VisitAnswer {
     pub after: Earlier,
 }
 
-// What a baseline leaves for judging visits.
-pub fn judge_baseline(entry: BaselineEntry, nodes: [bool; 5], sizes: [u16; 5]) -> BaselineDisease
-    ensures { λ r. ⌜ r ≡ diseaseOf entry nodes sizes ⌝ }
+pub fn judge_baseline(entry: BaselineEntry, nodes: [bool; 5], sizes: [u16; 5]) -> BaselineAnswer
+    ensures { λ r. ⌜ JudgesBaseline entry nodes sizes r ⌝ }
 {
-    BaselineDisease {
+    let sum = sums::baseline_sum(entry.count, sizes);
+    let disease = BaselineDisease {
         assessed: entry.assessed,
         count: entry.count,
         nodes: nodes,
-        sum: sums::baseline_sum(entry.count, sizes),
-    }
-}
-
-// What is left for judging the first visit.
-pub fn before_visits(baseline: BaselineDisease) -> Earlier
-    ensures { λ r. ⌜ r ≡ leftBy baseline [] ⌝ }
-{
-    Earlier {
-        nadir: baseline.sum,
+        sum: sum,
+    };
+    BaselineAnswer {
+        disease: disease,
+        after: Earlier { nadir: sum },
     }
 }
 
@@ -52,7 +50,7 @@ pub fn judge_visit(
     measured: [bool; 5],
     sizes: [u16; 5],
 ) -> VisitAnswer
-    ensures { λ r. ⌜ Judges baseline earlier entry measured sizes r ⌝ }
+    ensures { λ r. ⌜ JudgesVisit baseline earlier entry measured sizes r ⌝ }
 {
     let status = entry.status;
     let target = targets::target_answer(baseline, earlier, measured, sizes);
