@@ -1,16 +1,50 @@
 -- The first rule that applies, from what the tests of the code say: `search` finds the premises by itself.
 -- Assumes nothing.
-use mathlib.Core.Path.{_≡_}
+use mathlib.Core.Path.{_≡_, refl, sym}
 use mathlib.Core.Bool.{Bool, true, false, not}
 use mathlib.Core.List.{List}
 use Prim.Native.Nat.{ℕ}
-use borrow.Author.Tests.{eq-eqb, ne-eqb}
-use Rattle.laws.specs.Choice.{both}
+use native.Mathlib.Omega.{arith}
+use lib.Dec.{eqb, leb}
+use lib.ListN.{getD}
+use borrow.Author.Tests.{eqb-true, le-leb, eq-eqb, ne-eqb}
+use Rattle.laws.specs.Choice.{both, either}
+use Rattle.laws.proofs.Tests.{both-with-true}
 use Rattle.criteria.specs.Words.{CR, PR, SD, PD, NE, NA}
 use Rattle.criteria.specs.Sums.{measuredSum, allMeasured}
-use Rattle.criteria.specs.Targets.{allGone, grown, shrunk, targetAnswer}
+use Rattle.criteria.specs.Targets.{normalNode, gone, allGone, grown, shrunk, targetAnswer}
 use Rattle.criteria.specs.declared.BaselineDisease.{BaselineDisease}
 use Rattle.criteria.specs.declared.Earlier.{Earlier}
+
+-- a target that is normal or gone, as the code tests it
+gone-as-tested : (node : Bool) (size : ℕ) → either (eqb size 0) (both node (leb size normalNode)) ≡ gone node size
+gone-as-tested true size = go (eqb size 0) refl
+  where
+    go : (z : Bool) → eqb size 0 ≡ z → either z (leb size normalNode) ≡ leb size normalNode
+    go true q = let z = eqb-true size 0 q in sym (le-leb size normalNode (omega arith))
+    go false q = refl
+gone-as-tested false size = go (eqb size 0)
+  where
+    go : (z : Bool) → either z false ≡ z
+    go true = refl
+    go false = refl
+
+abbrev testedAt : ℕ → List Bool → List ℕ → ℕ → Bool
+testedAt count nodes sizes i = either (leb count i) (either (eqb (getD sizes i 0) 0) (both (getD nodes i false) (leb (getD sizes i 0) normalNode)))
+
+pub all-gone-as-tested : (count : ℕ) (nodes : List Bool) (sizes : List ℕ) →
+    both (testedAt count nodes sizes 4) (both (testedAt count nodes sizes 3) (both (testedAt count nodes sizes 2)
+    (both (testedAt count nodes sizes 1) (testedAt count nodes sizes 0)))) ≡ allGone count nodes sizes
+unfolding allGone
+all-gone-as-tested count nodes sizes =
+    rw (
+      gone-as-tested (getD nodes 0 false) (getD sizes 0 0),
+      gone-as-tested (getD nodes 1 false) (getD sizes 1 0),
+      gone-as-tested (getD nodes 2 false) (getD sizes 2 0),
+      gone-as-tested (getD nodes 3 false) (getD sizes 3 0),
+      gone-as-tested (getD nodes 4 false) (getD sizes 4 0),
+      both-with-true,
+    )
 
 module _ (b : BaselineDisease) (e : Earlier) (measured : List Bool) (sizes : List ℕ) where
   pub no-targets : b .count ≡ 0 → NA ≡ targetAnswer b e measured sizes

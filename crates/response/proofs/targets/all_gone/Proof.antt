@@ -1,6 +1,6 @@
 -- `response::targets::all_gone` meets its contract.
 -- Assumes nothing.
-use Rattle.criteria.specs.Targets.{allGone}
+use Rattle.response.proofs.TargetRules.{all-gone-as-tested}
 use borrow.Author.Needs.{needs}
 use Rattle.response.proofs.targets.all_gone.Statement.{statement}
 use Rattle.response.proofs.targets.all_gone.Tie as tie
@@ -19,5 +19,9 @@ all-gone-spec =
     (λ c. search needs)
     (λ c. search needs)
     (λ c. search needs)
-    (λ c κs. search needs)
-    (λ c. unfold allGone in c .five-gone .ensures))
+    (λ c. search needs)
+    (λ c. search needs)
+    (λ c. search needs)
+    (λ c. search needs)
+    (λ c. search needs)
+    (λ c. all-gone-as-tested (c .args .count) (c .args .t2) (c .args .t3)))
