@@ -31,7 +31,8 @@ abbrev pub leastOf : ℕ → List ℕ → ℕ
 leastOf n [] = n
 leastOf n (m ∷ ms) = min m (leastOf n ms)
 
--- the least of the baseline sum and the sums of all earlier visits with every target measured
+-- the least of the baseline sum and the sums of all earlier visits with every target measured, later therapy or progression notwithstanding:
+-- neither takes a visit from the list
 unfoldable pub nadirOf : BaselineDisease → List Visit → ℕ
 nadirOf b earlier = leastOf (b .sum) (completeSums (b .count) earlier)
 

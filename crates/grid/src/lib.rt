@@ -7,7 +7,7 @@ ghost use Prim.Native.Nat.{_<_, _≤_};
 ghost use Rattle.criteria.specs.Words.{PD, codeOf, targetWord, statusWord, overallWord};
 ghost use Rattle.criteria.specs.Overall.{rows, columns, rowOf, columnOf, cell, overallAnswer};
 
-// The codes of answers in the grid.
+// The codes of answers in the grid; PD, which no cell has, follows them.
 const CR: u8 = 0;
 
 const PR: u8 = 1;
@@ -29,6 +29,7 @@ const GRID: [[u8; 4]; 5] = [
     [CR, SD, NE, NE],
 ];
 
+// PD has no row.
 fn row(target: Target) -> usize
     ensures { λ r. ⌜ r ≡ rowOf (targetWord target) ⌝ }
 {
@@ -42,6 +43,7 @@ fn row(target: Target) -> usize
     }
 }
 
+// PD has no column.
 fn column(status: Status) -> usize
     ensures { λ r. ⌜ r ≡ columnOf (statusWord status) ⌝ }
 {

@@ -8,12 +8,15 @@ ghost use mathlib.Core.Path.{_≡_};
 ghost use Rattle.criteria.specs.Words.{targetWord};
 ghost use Rattle.criteria.specs.Targets.{allGone, grown, shrunk, targetAnswer};
 
+// The short axis in millimetres up to which a node is normal.
 const NORMAL_NODE: u16 = 9;
 
+// Growth that is progression: millimetres above the nadir, and fifths of it.
 const GROWN_BY: u64 = 5;
 
 const GROWN_TO_FIFTHS: u64 = 6;
 
+// A partial response: tenths of the baseline sum, which is 30 % less.
 const PARTIAL_TENTHS: u64 = 7;
 
 // Every node is normal and every other target gone; joined without a branch, for speed.
