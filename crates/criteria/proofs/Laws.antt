@@ -7,11 +7,13 @@ use Prim.Native.Nat.{ℕ, _+_, _*_, _≤_, _<_, min}
 use native.Mathlib.Nat.{div-add-mod, mod-lt}
 use native.Mathlib.Omega.{arith}
 use lib.Dec.{eqb}
-use Rattle.laws.specs.Choice.{either, pick}
+use Rattle.laws.specs.Choice.{pick}
+use Rattle.laws.proofs.Tests.{either-with-true}
 use Rattle.criteria.specs.Words.{Word, PD, NE, statusWord}
 use Rattle.criteria.specs.Sums.{measuredSum, allMeasured}
-use Rattle.criteria.specs.Nadir.{Visit, completeSums, leastOf, nadirOf, leftBy, afterVisit}
-use Rattle.criteria.specs.Overall.{rowOf, columnOf, cell, isPD, overallAnswer}
+use Rattle.criteria.specs.Inputs.{Visit}
+use Rattle.criteria.specs.Nadir.{completeSums, leastOf, nadirOf, leftBy, afterVisit}
+use Rattle.criteria.specs.Overall.{isPD, overallAnswer}
 use Rattle.criteria.specs.Change.{none, signed, nearest, changeBetween, changeOf}
 use Rattle.criteria.specs.Visits.{visitTarget, visitOverall, visitChange}
 use Rattle.criteria.specs.Laws.{OverallLaws, leftAfter, NadirLaws, ChangeLaws}
@@ -44,11 +46,7 @@ pd-target false s = refl
 pd-nontarget : (n : Bool) (t : Word) → overallAnswer true n t PD ≡ PD
 unfolding overallAnswer
 pd-nontarget true t = refl
-pd-nontarget false t = go (isPD t)
-  where
-    go : (p : Bool) → pick (either p true) PD (cell (rowOf t) (columnOf PD)) ≡ PD
-    go true = refl
-    go false = refl
+pd-nontarget false t = rw (either-with-true (isPD t))
 
 module _ (b : BaselineDisease) (vs : List Visit) (v : Visit) where
   missing : b .assessed ≡ false → visitOverall b vs v ≡ NE
@@ -66,19 +64,19 @@ module _ (b : BaselineDisease) (vs : List Visit) (v : Visit) where
 pub overall-laws : OverallLaws
 overall-laws = record { missing = missing; newLesion = new-lesion; targetPD = target-pd; nontargetPD = nontarget-pd }
 
-abbrev withNadir : ℕ → Earlier
+abbrev pub withNadir : ℕ → Earlier
 withNadir n = record { nadir = n }
 
 -- one visit more, by whether every target was measured
 one-more : (b : BaselineDisease) (vs : List Visit) (v : Visit) →
     leftBy b (v ∷ vs) ≡ afterVisit (b .count) (leftBy b vs) (v .measured) (v .sizes)
 unfolding nadirOf afterVisit
-one-more b vs v = go (allMeasured (b .count) (v .measured)) (measuredSum (v .measured) (v .sizes)) (completeSums (b .count) vs)
+one-more b vs v = go (allMeasured (b .count) (v .measured)) refl
   where
-    go : (m : Bool) (s : ℕ) (ss : List ℕ) →
-        withNadir (leastOf (b .sum) (pick m (s ∷ ss) ss)) ≡ withNadir (pick m (min s (leastOf (b .sum) ss)) (leastOf (b .sum) ss))
-    go true s ss = refl
-    go false s ss = refl
+    go : (m : Bool) → allMeasured (b .count) (v .measured) ≡ m →
+        leftBy b (v ∷ vs) ≡ afterVisit (b .count) (leftBy b vs) (v .measured) (v .sizes)
+    go true q = rw q
+    go false q = rw q
 
 least-moved : (s n : ℕ) (ms : List ℕ) → leastOf (min s n) ms ≡ min s (leastOf n ms)
 least-moved s n [] = refl
@@ -127,11 +125,7 @@ no-targets b v e = rw e
 
 unmeasured : (b : BaselineDisease) (v : Visit) → allMeasured (b .count) (v .measured) ≡ false → visitChange b v ≡ none
 unfolding changeOf
-unmeasured b v e = rw e (go (eqb (b .count) 0))
-  where
-    go : (c : Bool) → pick (either c true) none (changeBetween (b .sum) (measuredSum (v .measured) (v .sizes))) ≡ none
-    go true = refl
-    go false = refl
+unmeasured b v e = rw (e, either-with-true (eqb (b .count) 0))
 
 pub change-laws : ChangeLaws
 change-laws = record { rounded = rounded; half = half; lessThanHalf = less-than-half; noTargets = no-targets; unmeasured = unmeasured }

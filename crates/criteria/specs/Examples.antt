@@ -9,7 +9,7 @@ use lib.ListN.{length}
 use Rattle.dates.specs.Laws.{ymd}
 use Rattle.records.specs.declared.Status.the-variants as S
 use Rattle.criteria.specs.Words.{CR, PR, SD, PD, NE}
-use Rattle.criteria.specs.Nadir.{Visit, diseaseOf}
+use Rattle.criteria.specs.Inputs.{Visit, diseaseOf}
 use Rattle.criteria.specs.Overall.{isPD}
 use Rattle.criteria.specs.Change.{signed}
 use Rattle.criteria.specs.Visits.{visitTarget, visitOverall, visitChange}

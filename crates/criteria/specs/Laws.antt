@@ -6,7 +6,8 @@ use mathlib.Core.List.{List, [], _∷_}
 use Prim.Native.Nat.{ℕ, _+_, _*_, _≤_, _<_}
 use Rattle.criteria.specs.Words.{PD, NE, statusWord}
 use Rattle.criteria.specs.Sums.{allMeasured}
-use Rattle.criteria.specs.Nadir.{Visit, leftBy, afterVisit}
+use Rattle.criteria.specs.Inputs.{Visit}
+use Rattle.criteria.specs.Nadir.{leftBy, afterVisit}
 use Rattle.criteria.specs.Change.{none, signed, nearest, changeBetween}
 use Rattle.criteria.specs.Visits.{visitTarget, visitOverall, visitChange}
 use Rattle.criteria.specs.declared.BaselineDisease.{BaselineDisease}

@@ -1,5 +1,6 @@
 pub mod Words
 pub mod Sums
+pub mod Inputs
 pub mod Targets
 pub mod Nadir
 pub mod Overall

@@ -4,22 +4,10 @@ use Prim.Native.Nat.{ℕ, min}
 use mathlib.Core.Bool.{Bool}
 use mathlib.Core.List.{List, [], _∷_}
 use Rattle.laws.specs.Choice.{pick}
-use Rattle.records.specs.declared.BaselineEntry.{BaselineEntry}
-use Rattle.records.specs.declared.Status.{Status}
-use Rattle.criteria.specs.Sums.{measuredSum, baselineSum, allMeasured}
+use Rattle.criteria.specs.Sums.{measuredSum, allMeasured}
+use Rattle.criteria.specs.Inputs.{Visit}
 use Rattle.criteria.specs.declared.BaselineDisease.{BaselineDisease}
 use Rattle.criteria.specs.declared.Earlier.{Earlier}
-
--- a visit as the rules see it, without its date
-pub record Visit : Type 0 where
-  pub status : Status
-  pub newLesion : Bool
-  pub measured : List Bool
-  pub sizes : List ℕ
-
--- what a baseline with these nodes and sizes leaves for judging visits
-abbrev pub diseaseOf : BaselineEntry → List Bool → List ℕ → BaselineDisease
-diseaseOf b nodes sizes = record { assessed = b .assessed; count = b .count; nodes = nodes; sum = baselineSum (b .count) sizes }
 
 -- the sums of the visits with every target measured
 abbrev pub completeSums : ℕ → List Visit → List ℕ

@@ -2,8 +2,9 @@
 -- Assumes nothing.
 use mathlib.Core.List.{List}
 use Rattle.criteria.specs.Words.{Word, statusWord}
+use Rattle.criteria.specs.Inputs.{Visit}
 use Rattle.criteria.specs.Targets.{targetAnswer}
-use Rattle.criteria.specs.Nadir.{Visit, leftBy}
+use Rattle.criteria.specs.Nadir.{leftBy}
 use Rattle.criteria.specs.Overall.{overallAnswer}
 use Rattle.criteria.specs.Change.{Tenths, changeOf}
 use Rattle.criteria.specs.declared.BaselineDisease.{BaselineDisease}

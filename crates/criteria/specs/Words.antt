@@ -17,6 +17,7 @@ pub data Word : Type 0 where
   NA : Word
   NN : Word
 
+-- the grid has the first four
 abbrev pub codeOf : Word → ℕ
 codeOf CR = 0
 codeOf PR = 1

@@ -20,6 +20,14 @@ pub both-with-true : (a : Bool) → both a true ≡ a
 both-with-true true = refl
 both-with-true false = refl
 
+pub either-with-true : (a : Bool) → either a true ≡ true
+either-with-true true = refl
+either-with-true false = refl
+
+pub either-with-false : (a : Bool) → either a false ≡ a
+either-with-false true = refl
+either-with-false false = refl
+
 pub either-false : (a b : Bool) → either a b ≡ false → (a ≡ false) × (b ≡ false)
 either-false true b e = absurd (never e)
 either-false false b e = (refl, e)

@@ -8,10 +8,8 @@ use native.Mathlib.Omega.{arith}
 use borrow.Author.Tests.{not-false, not-true}
 use Rattle.criteria.specs.Sums.{measuredSum, allMeasured}
 use Rattle.criteria.specs.Nadir.{afterVisit}
+use Rattle.criteria.proofs.Laws.{withNadir}
 use Rattle.criteria.specs.declared.Earlier.{Earlier}
-
-abbrev withNadir : ℕ → Earlier
-withNadir n = record { nadir = n }
 
 module _ (count : ℕ) (e : Earlier) (measured : List Bool) (sizes : List ℕ) (m : Bool) (me : m ≡ allMeasured count measured) where
   pub incomplete : not m ≡ true → e ≡ afterVisit count e measured sizes

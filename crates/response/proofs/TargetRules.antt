@@ -9,7 +9,7 @@ use lib.Dec.{eqb, leb}
 use lib.ListN.{getD}
 use borrow.Author.Tests.{eqb-true, le-leb, eq-eqb, ne-eqb}
 use Rattle.laws.specs.Choice.{both, either}
-use Rattle.laws.proofs.Tests.{both-with-true}
+use Rattle.laws.proofs.Tests.{both-with-true, either-with-false}
 use Rattle.criteria.specs.Words.{CR, PR, SD, PD, NE, NA}
 use Rattle.criteria.specs.Sums.{measuredSum, allMeasured}
 use Rattle.criteria.specs.Targets.{normalNode, gone, allGone, grown, shrunk, targetAnswer}
@@ -23,11 +23,7 @@ gone-as-tested true size = go (eqb size 0) refl
     go : (z : Bool) → eqb size 0 ≡ z → either z (leb size normalNode) ≡ leb size normalNode
     go true q = let z = eqb-true size 0 q in sym (le-leb size normalNode (omega arith))
     go false q = refl
-gone-as-tested false size = go (eqb size 0)
-  where
-    go : (z : Bool) → either z false ≡ z
-    go true = refl
-    go false = refl
+gone-as-tested false size = either-with-false (eqb size 0)
 
 abbrev testedAt : ℕ → List Bool → List ℕ → ℕ → Bool
 testedAt count nodes sizes i = either (leb count i) (either (eqb (getD sizes i 0) 0) (both (getD nodes i false) (leb (getD sizes i 0) normalNode)))

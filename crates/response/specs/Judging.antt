@@ -7,8 +7,9 @@ use Prim.Native.Nat.{ℕ}
 use Rattle.records.specs.declared.BaselineEntry.{BaselineEntry}
 use Rattle.records.specs.declared.VisitEntry.{VisitEntry}
 use Rattle.criteria.specs.Words.{targetWord, statusWord, overallWord}
+use Rattle.criteria.specs.Inputs.{diseaseOf}
 use Rattle.criteria.specs.Targets.{targetAnswer}
-use Rattle.criteria.specs.Nadir.{diseaseOf, leftBy, afterVisit}
+use Rattle.criteria.specs.Nadir.{leftBy, afterVisit}
 use Rattle.criteria.specs.Overall.{overallAnswer}
 use Rattle.criteria.specs.Change.{changeValues, changeOf}
 use Rattle.criteria.specs.declared.BaselineDisease.{BaselineDisease}

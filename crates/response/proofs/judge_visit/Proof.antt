@@ -1,8 +1,5 @@
 -- `response::judge_visit` meets its contract: each part is what its rule ensures.
 -- Assumes nothing.
-use mathlib.Core.Path.{ap, _∙_}
-use Rattle.criteria.specs.Words.{Word, statusWord}
-use Rattle.criteria.specs.Overall.{overallAnswer}
 use borrow.Author.Needs.{needs}
 use Rattle.response.proofs.judge_visit.Statement.{statement}
 use Rattle.response.proofs.judge_visit.Tie as tie
@@ -15,4 +12,4 @@ judge-visit-spec =
     (λ c κs. search needs)
     (λ c κs. search needs)
     (λ c κs. search needs)
-    (λ c. let t = c .before .before .before .target-answer .ensures in record { target = t; overall = c .before .before .overall-answer .ensures ∙ ap (λ (w : Word). overallAnswer (c .before .before .before .before .args .baseline .assessed) (c .before .before .before .before .args .entry .newlesion) w (statusWord (c .before .before .before .before .args .entry .status))) t; change = c .before .change-from-baseline .ensures; after = c .after-visit .ensures }))
+    (λ c. let t = c .before .before .before .target-answer .ensures in record { target = t; overall = rw (← t) (c .before .before .overall-answer .ensures); change = c .before .change-from-baseline .ensures; after = c .after-visit .ensures }))

@@ -1,0 +1,20 @@
+-- Document 01, "Visit responses": what the rules take, a baseline and a visit without their dates.
+-- Assumes nothing.
+use Prim.Native.Nat.{ℕ}
+use mathlib.Core.Bool.{Bool}
+use mathlib.Core.List.{List}
+use Rattle.records.specs.declared.BaselineEntry.{BaselineEntry}
+use Rattle.records.specs.declared.Status.{Status}
+use Rattle.criteria.specs.Sums.{baselineSum}
+use Rattle.criteria.specs.declared.BaselineDisease.{BaselineDisease}
+
+-- what a baseline with these nodes and sizes leaves for judging visits
+abbrev pub diseaseOf : BaselineEntry → List Bool → List ℕ → BaselineDisease
+diseaseOf b nodes sizes = record { assessed = b .assessed; count = b .count; nodes = nodes; sum = baselineSum (b .count) sizes }
+
+-- what a visit has for the rules
+pub record Visit : Type 0 where
+  pub status : Status
+  pub newLesion : Bool
+  pub measured : List Bool
+  pub sizes : List ℕ
