@@ -1,0 +1,58 @@
+-- Document 01, "Dates and records": lawful lists. The records behind a baseline are a list with the newest first, here and in the definitions that
+-- follow: `r ∷ p` is p with r recorded after it, so that what was recorded before a record is the list behind it.
+-- Assumes nothing.
+use Prim.Native.Nat.{ℕ, max}
+use mathlib.Core.Bool.{Bool, true, false, not}
+use mathlib.Core.List.{List, [], _∷_, reverse}
+use lib.Dec.{leb, ltb, eqb}
+use lib.ListN.{getD}
+use Rattle.laws.specs.Choice.{both, pick, some}
+use Rattle.records.specs.Form.{statusNumber}
+use Rattle.records.specs.Refusals.{mostTargets}
+use Rattle.criteria.specs.Inputs.{Visit}
+use Rattle.endpoints.specs.Values.{Day, none, on, isRecorded, _orElse_}
+use Rattle.endpoints.specs.StudyRecords.{Baseline, StudyRecord, baseline, visit, therapy, death, dayOf}
+
+abbrev pub Past : Type 0
+Past = List StudyRecord
+
+-- the latest day starts at 1
+abbrev pub latestDay : Past → ℕ
+latestDay [] = 1
+latestDay (r ∷ p) = max (dayOf r) (latestDay p)
+
+abbrev pub deathDay : Past → Day
+deathDay [] = none
+deathDay (baseline b ∷ p) = deathDay p
+deathDay (visit d v ∷ p) = deathDay p
+deathDay (therapy d ∷ p) = deathDay p
+deathDay (death d ∷ p) = deathDay p orElse on d
+
+abbrev pub died : Past → Bool
+died p = isRecorded (deathDay p)
+
+-- targets beyond the count unmeasured, status 0 exactly when no non-target lesions were recorded
+unfoldable pub fits : Baseline → Visit → Bool
+fits b v =
+    both (not (some (λ (i : ℕ). both (leb (b .count) i) (getD (v .measured) i false)) mostTargets))
+    (pick (b .nontarget) (not (eqb (statusNumber (v .status)) 0)) (eqb (statusNumber (v .status)) 0))
+
+-- no other baseline; each therapy or death on or after the latest day so far; each visit later than it, and fitting the baseline
+abbrev pub placed : Baseline → ℕ → StudyRecord → Bool
+placed b latest (baseline x) = false
+placed b latest (visit d v) = both (ltb latest d) (fits b v)
+placed b latest (therapy d) = leb latest d
+placed b latest (death d) = leb latest d
+
+-- nothing after a death
+abbrev pub lawfulBehind : Baseline → Past → Bool
+lawfulBehind b [] = true
+lawfulBehind b (r ∷ p) = both (lawfulBehind b p) (both (not (died p)) (placed b (latestDay p) r))
+
+-- a list in the order recorded opens with a baseline
+abbrev pub lawful : List StudyRecord → Bool
+lawful [] = false
+lawful (baseline b ∷ rs) = lawfulBehind b (reverse rs)
+lawful (visit d v ∷ rs) = false
+lawful (therapy d ∷ rs) = false
+lawful (death d ∷ rs) = false

@@ -1,0 +1,32 @@
+-- What document 01, "Dates and records", "Outcome" and "Settled", lets a reader expect of lists: stated here, proved in proofs/.
+-- Assumes nothing.
+use mathlib.Core.Path.{_≡_}
+use mathlib.Core.Bool.{Bool, true, false}
+use mathlib.Core.List.{List, _∷_}
+use mathlib.Core.Logic.{_↔_}
+use Prim.Native.Nat.{ℕ, _<_}
+use Rattle.dates.specs.declared.Date.{Date}
+use Rattle.dates.specs.Calendar.{dayNumber}
+use Rattle.records.specs.declared.Record.{Record}
+use Rattle.records.specs.Form.{dateOf}
+use Rattle.endpoints.specs.Values.{exists}
+use Rattle.endpoints.specs.StudyRecords.{Baseline, StudyRecord, dayOf, onStudyDay, onStudyDays}
+use Rattle.endpoints.specs.Lawful.{Past, latestDay, lawfulBehind, lawful}
+use Rattle.endpoints.specs.Best.{isResponse, best, duration}
+use Rattle.endpoints.specs.Adding.{isBaseline, tooEarly, refusalBehind, refusalOfOpening, Call, accepted}
+
+pub record ListLaws : Type 0 where
+  -- in a lawful list the latest day is that of the last record
+  pub latestIsLast : (b : Baseline) (p : Past) (r : StudyRecord) → lawfulBehind b (r ∷ p) ≡ true → latestDay (r ∷ p) ≡ dayOf r
+  -- duration exists exactly when best is CR or PR
+  pub durationExists : (b : Baseline) (p : Past) → exists (duration b p) ≡ isResponse (best b p)
+
+pub record AddingLaws : Type 0 where
+  -- none of 8 to 11 meets a record exactly when the list with it is lawful too
+  pub oneMore : (b : Baseline) (p : Past) (r : StudyRecord) → lawfulBehind b p ≡ true →
+      (refusalBehind b p r ≡ 0) ↔ (lawfulBehind b (r ∷ p) ≡ true)
+  -- a date before randomisation is too early after any list, also where day 1 is not
+  pub beforeRandomisation : (randomisation : Date) (p : Past) (r : Record) → isBaseline (onStudyDay randomisation r) ≡ false →
+      dayNumber (dateOf (r .entry)) < dayNumber randomisation → tooEarly (latestDay p) (onStudyDay randomisation r) ≡ true
+  -- from an accepted opening every list of calls leads to a lawful list
+  pub acceptedLawful : (b : Record) (cs : List Call) → refusalOfOpening b ≡ 0 → lawful (onStudyDays (accepted b cs)) ≡ true

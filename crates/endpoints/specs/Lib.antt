@@ -1,0 +1,11 @@
+pub mod Values
+pub mod StudyRecords
+pub mod Lawful
+pub mod Visits
+pub mod Pfs
+pub mod Best
+pub mod Settled
+pub mod Lasting
+pub mod Adding
+pub mod Laws
+pub mod Examples
