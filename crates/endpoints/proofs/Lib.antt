@@ -1,1 +1,11 @@
 pub mod Examples
+pub mod Behind
+pub mod Missing
+pub mod PfsLasts
+pub mod BestLasts
+pub mod CompleteVisit
+pub mod PfsChanges
+pub mod BestChanges
+pub mod Exact
+pub mod InOrder
+pub mod Accepted

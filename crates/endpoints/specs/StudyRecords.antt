@@ -10,6 +10,8 @@ use Rattle.laws.specs.Choice.{both, either}
 use Rattle.dates.specs.declared.Date.{Date}
 use Rattle.dates.specs.Answers.{studyDayOf}
 use Rattle.dates.specs.Laws.{ymd}
+use Rattle.records.specs.declared.BaselineEntry.{BaselineEntry}
+use Rattle.records.specs.declared.VisitEntry.{VisitEntry}
 use Rattle.records.specs.declared.Entry.{Entry}
 use Rattle.records.specs.declared.Entry.the-variants as E
 use Rattle.records.specs.declared.Record.{Record}
@@ -49,11 +51,17 @@ fieldsOfPass e marks sizes =
     both (both (eqb (length marks) mostTargets) (eqb (length sizes) mostTargets))
     (not (either (outsideLimits e marks sizes) (notZero e marks sizes)))
 
--- neither 4 nor 5 meets the fields other than the date, at which neither of them looks
+-- the entries that 4 and 5 judge; neither of them looks at the date, and none stands in it
+abbrev pub entryOfBaseline : Baseline → BaselineEntry
+entryOfBaseline b = record { date = ymd 0 0 0; assessed = b .assessed; nontarget = b .nontarget; count = b .count }
+
+abbrev pub entryOfVisit : Visit → VisitEntry
+entryOfVisit v = record { date = ymd 0 0 0; status = v .status; newlesion = v .newLesion }
+
+-- neither 4 nor 5 meets the fields other than the date
 abbrev pub fieldsPass : StudyRecord → Bool
-fieldsPass (baseline b) =
-    fieldsOfPass (E.Baseline (record { date = ymd 0 0 0; assessed = b .assessed; nontarget = b .nontarget; count = b .count })) (b .nodes) (b .sizes)
-fieldsPass (visit d v) = fieldsOfPass (E.Visit (record { date = ymd 0 0 0; status = v .status; newlesion = v .newLesion })) (v .measured) (v .sizes)
+fieldsPass (baseline b) = fieldsOfPass (E.Baseline (entryOfBaseline b)) (b .nodes) (b .sizes)
+fieldsPass (visit d v) = fieldsOfPass (E.Visit (entryOfVisit v)) (v .measured) (v .sizes)
 fieldsPass (therapy d) = true
 fieldsPass (death d) = true
 

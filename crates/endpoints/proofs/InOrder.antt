@@ -1,0 +1,53 @@
+-- The marks are exact in the order recorded: a run behind a list is a run in front of the list with the newest first, reversed.
+-- Assumes nothing.
+use mathlib.Core.Path.{_≡_, refl, sym, ap, _∙_}
+use mathlib.Core.Bool.{Bool, true, false}
+use mathlib.Core.List.{List, [], _∷_, _++_, reverse, reverse-append, reverse-reverse}
+use mathlib.Core.Logic.{_↔_}
+use Rattle.laws.specs.Choice.{both}
+use Rattle.laws.proofs.Tests.{both-true}
+use Rattle.endpoints.specs.StudyRecords.{Baseline, StudyRecord, baseline, fieldsPass, allPass}
+use Rattle.endpoints.specs.Lawful.{Past, lawfulBehind, lawful}
+use Rattle.endpoints.specs.Pfs.{pfs}
+use Rattle.endpoints.specs.Best.{best, duration}
+use Rattle.endpoints.specs.Lasting.{Lasts, LastsInOrder, Settling, SettlingInOrder}
+use Rattle.endpoints.proofs.Exact.{settling}
+
+pass-append : (rs ss : List StudyRecord) → allPass rs ≡ true → allPass ss ≡ true → allPass (rs ++ ss) ≡ true
+pass-append [] ss e f = f
+pass-append (r ∷ rs) ss e f =
+    let parts = both-true (fieldsPass r) (allPass rs) e in
+    rw (parts .0) (pass-append rs ss (parts .1) f)
+
+pass-reverse : (rs : List StudyRecord) → allPass rs ≡ true → allPass (reverse rs) ≡ true
+pass-reverse [] e = refl
+pass-reverse (r ∷ rs) e =
+    let parts = both-true (fieldsPass r) (allPass rs) e in
+    ap allPass (reverse-append (r ∷ []) rs) ∙ pass-append (reverse rs) (r ∷ []) (pass-reverse rs (parts .1)) (rw (parts .0))
+
+lasts-in-order : {A : Type 0} (part : Baseline → Past → A) (b : Baseline) (rs : List StudyRecord) → Lasts part b (reverse rs) ↔ LastsInOrder part b rs
+lasts-in-order part b rs = (
+  λ lasts run passes l.
+      ap (part b) (reverse-append rs run)
+      ∙ lasts (reverse run) (pass-reverse run passes) (ap (lawfulBehind b) (sym (reverse-append rs run)) ∙ l),
+  λ lasts run passes l.
+      ap (part b) (sym (turned run)) ∙ lasts (reverse run) (pass-reverse run passes) (ap (lawfulBehind b) (turned run) ∙ l),
+)
+  where
+    turned : (run : Past) → reverse (rs ++ reverse run) ≡ run ++ reverse rs
+    turned run = reverse-append rs (reverse run) ∙ ap (λ (x : Past). x ++ reverse rs) (reverse-reverse run)
+
+trans-iff : {A B C : Type 0} → A ↔ B → B ↔ C → A ↔ C
+trans-iff f g = (λ a. g .0 (f .0 a), λ c. f .1 (g .1 c))
+
+pub settling-in-order : SettlingInOrder
+settling-in-order =
+    record {
+      exact = λ b rs passes lawfully.
+          let marks = settling .exact b (reverse rs) passes lawfully in
+          record {
+            pfsMark = trans-iff (marks .pfsMark) (lasts-in-order pfs b rs);
+            bestMark = trans-iff (marks .bestMark) (lasts-in-order best b rs);
+            durationMark = trans-iff (marks .durationMark) (lasts-in-order duration b rs);
+          };
+    }
