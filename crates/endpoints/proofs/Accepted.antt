@@ -7,6 +7,7 @@ use mathlib.Core.Logic.{_↔_}
 use Prim.Native.Nat.{ℕ, _≤_, _<_}
 use native.Mathlib.Omega.{arith}
 use lib.Dec.{leb, ltb, eqb}
+use lib.ListN.{length}
 use borrow.Author.Tests.{le-leb, lt-leb, lt-ltb, le-ltb, leb-true, leb-false, ltb-true, ltb-false, eqb-true, eqb-false}
 use Rattle.laws.specs.Choice.{both, pick}
 use Rattle.laws.proofs.Tests.{never}
@@ -16,9 +17,10 @@ use Rattle.dates.specs.Answers.{refused, studyDayOf}
 use Rattle.records.specs.declared.Entry.{Entry}
 use Rattle.records.specs.declared.Entry.the-variants as E
 use Rattle.records.specs.declared.Record.{Record}
-use Rattle.records.specs.Form.{dateOf, kindNumber}
-use Rattle.records.specs.Refusals.{refusalOf}
-use Rattle.endpoints.specs.StudyRecords.{Baseline, StudyRecord, baseline, visit, therapy, death, studyDay, entryOnStudyDay, onStudyDay, onStudyDays}
+use Rattle.records.specs.Form.{dateOf, kindNumber, Five}
+use Rattle.records.specs.Refusals.{mostTargets, withoutDisease, outsideLimits, notZero, refusalOf}
+use Rattle.records.proofs.Passed.{passes}
+use Rattle.endpoints.specs.StudyRecords.{Baseline, StudyRecord, baseline, visit, therapy, death, fieldsOfPass, fieldsPass, studyDay, entryOnStudyDay, onStudyDay, onStudyDays}
 use Rattle.endpoints.specs.Lawful.{Past, latestDay, died, fits, lawfulBehind, lawful}
 use Rattle.endpoints.specs.Adding.{isBaseline, tooEarly, refusalBehind, refusalAfter, afterOwn, refusalOfOpening, refusalOfAdding, Call, add, read, acceptedAfter, accepted}
 use Rattle.endpoints.specs.Laws.{ListLaws, AddingLaws}
@@ -93,6 +95,20 @@ early randomisation p (E.Visit v) marks sizes n h = rw (before-randomisation ran
 early randomisation p (E.Therapy d) marks sizes n h = rw (before-randomisation randomisation d h, lt-ltb 0 (latestDay p) (from-day-1 p))
 early randomisation p (E.Death d) marks sizes n h = rw (before-randomisation randomisation d h, lt-ltb 0 (latestDay p) (from-day-1 p))
 
+-- 4 and 5 do not look at the date
+fields-on-day : (randomisation : Date) (e : Entry) (marks : List Bool) (sizes : List ℕ) → length marks ≡ mostTargets → length sizes ≡ mostTargets →
+    outsideLimits e marks sizes ≡ false → notZero e marks sizes ≡ false → fieldsPass (entryOnStudyDay randomisation e marks sizes) ≡ true
+unfolding fieldsOfPass outsideLimits notZero withoutDisease
+fields-on-day randomisation (E.Baseline b) marks sizes m s limits zeros = rw (m, s, limits, zeros)
+fields-on-day randomisation (E.Visit v) marks sizes m s limits zeros = rw (m, s, limits, zeros)
+fields-on-day randomisation (E.Therapy d) marks sizes m s limits zeros = refl
+fields-on-day randomisation (E.Death d) marks sizes m s limits zeros = refl
+
+own-passed : (randomisation : Date) (r : Record) → Five r → refusalOf r ≡ 0 → fieldsPass (onStudyDay randomisation r) ≡ true
+own-passed randomisation r five e =
+    let own = passes r false false e in
+    fields-on-day randomisation (r .entry) (r .marks) (r .sizes) (five .marks) (five .sizes) (own .limits) (own .zeros)
+
 -- one record more behind a list in the order recorded
 one-more-in-order : (s : StudyRecord) (ss : List StudyRecord) (r : StudyRecord) → lawful (s ∷ ss) ≡ true → refusalAfter (s ∷ ss) r ≡ 0 →
     lawful (s ∷ ss ++ (r ∷ [])) ≡ true
@@ -152,6 +168,7 @@ adding-laws =
     record {
       oneMore = one-more;
       beforeRandomisation = λ randomisation p r n h. early randomisation p (r .entry) (r .marks) (r .sizes) n h;
+      ownPassed = own-passed;
       acceptedLawful = accepted-lawful;
     }
 

@@ -12,7 +12,6 @@ use Rattle.laws.proofs.Tests.{never, both-true}
 use Rattle.endpoints.specs.Values.{Day, none, on, isRecorded, _orElse_}
 use Rattle.endpoints.specs.StudyRecords.{Baseline, StudyRecord, baseline, visit, therapy, death, dayOf, fieldsPass, allPass}
 use Rattle.endpoints.specs.Lawful.{Past, latestDay, died, fits, placed, lawfulBehind}
-use Rattle.endpoints.specs.Lasting.{Lasts}
 
 pub recorded-on : (x : Day) → isRecorded x ≡ true → (d : ℕ) × (x ≡ on d)
 recorded-on none e = absurd (never (sym e))
@@ -52,10 +51,14 @@ pub from-day-1 : (p : Past) → 1 ≤ latestDay p
 from-day-1 [] = omega arith
 from-day-1 (r ∷ p) = let h = from-day-1 p in omega arith
 
--- a part that each further record keeps, together with the reason for it, lasts
+-- what a part of the outcome is computed by gives the same behind every lawful run of further records
+abbrev pub Unchanged : {A : Type 0} → (Baseline → Past → A) → Baseline → Past → Type 0
+Unchanged part b p = (run : Past) → allPass run ≡ true → lawfulBehind b (run ++ p) ≡ true → part b (run ++ p) ≡ part b p
+
+-- so it does where each further record keeps it, together with a reason for that
 pub lasts-by : {A : Type 0} (part : Baseline → Past → A) (Reason : Past → Type 0) (b : Baseline) →
     ((p : Past) (r : StudyRecord) → Next b p r → Reason p → Reason (r ∷ p) × (part b (r ∷ p) ≡ part b p)) →
-    (p : Past) → Reason p → Lasts part b p
+    (p : Past) → Reason p → Unchanged part b p
 lasts-by part Reason b keep p why run passes l = go run l .1
   where
     go : (run : Past) → lawfulBehind b (run ++ p) ≡ true → Reason (run ++ p) × (part b (run ++ p) ≡ part b p)

@@ -16,8 +16,7 @@ use Rattle.endpoints.specs.Lawful.{Past, latestDay, deathDay, died, lawf
 use Rattle.endpoints.specs.Visits.{Judged, treated, judge, judged, firstPD, progression, counting}
 use Rattle.endpoints.specs.Pfs.{pfs}
 use Rattle.endpoints.specs.Best.{isCR, isResponse, confirmDays, completeBefore, confirmedCR, responseBefore, confirmedResponse, stable, bestOf, best, firstResponse, durationOf, duration}
-use Rattle.endpoints.specs.Lasting.{Lasts}
-use Rattle.endpoints.proofs.Behind.{recorded-on, absent, from-day-1}
+use Rattle.endpoints.proofs.Behind.{recorded-on, absent, from-day-1, Unchanged}
 use Rattle.endpoints.proofs.BestLasts.{confirmed-best}
 use Rattle.endpoints.proofs.CompleteVisit.{completeVisit, complete-judged, complete-passes, complete-lawful}
 use Rattle.endpoints.proofs.PfsChanges.{Until, censoredOn, censored-until, open-pfs, oneMore, one-more-lawful, one-more-pfs}
@@ -104,17 +103,17 @@ module _ (b : Baseline) (p : Past) (alive : died p ≡ false) (passes : fieldsPa
       ))
 
   -- a part that two CR visits change does not last
-  two-more-same : {A : Type 0} (part : Baseline → Past → A) → Lasts part b p → part b twoMore ≡ part b p
+  two-more-same : {A : Type 0} (part : Baseline → Past → A) → Unchanged part b p → part b twoMore ≡ part b p
   two-more-same part lasts =
       lasts (visit confirmedOn (completeVisit b) ∷ visit (suc (latestDay p)) (completeVisit b) ∷ [])
       (rw (complete-passes b confirmedOn)) two-more-lawful
 
-  pub best-changes : b .assessed ≡ true → treated p ≡ false → isRecorded (progression b p) ≡ false → isCR (best b p) ≡ false → Lasts best b p → ⊥
+  pub best-changes : b .assessed ≡ true → treated p ≡ false → isRecorded (progression b p) ≡ false → isCR (best b p) ≡ false → Unchanged best b p → ⊥
   best-changes assessed untreated e short lasts =
       never (sym (ap isCR (two-more-CR assessed untreated (absent (progression b p) e))) ∙ ap isCR (two-more-same best lasts) ∙ short)
 
   pub duration-begins : b .assessed ≡ true → treated p ≡ false → isRecorded (progression b p) ≡ false → exists (duration b p) ≡ false →
-      Lasts duration b p → ⊥
+      Unchanged duration b p → ⊥
   duration-begins assessed untreated e short lasts =
       let there = duration-exists b twoMore ∙ ap isResponse (two-more-CR assessed untreated (absent (progression b p) e)) in
       never (sym there ∙ ap exists (two-more-same duration lasts) ∙ short)
@@ -161,7 +160,7 @@ first-keeps b p d first v q = go (either (treated p) (isRecorded (progression b 
 
 module _ (b : Baseline) (p : Past) (alive : died p ≡ false) (passes : fieldsPass (baseline b) ≡ true) (lawfully : lawfulBehind b p ≡ true) where
   -- a CR visit on the day after the latest makes a duration longer
-  pub duration-grows : b .assessed ≡ true → isRecorded (progression b p) ≡ false → exists (duration b p) ≡ true → Lasts duration b p → ⊥
+  pub duration-grows : b .assessed ≡ true → isRecorded (progression b p) ≡ false → exists (duration b p) ≡ true → Unchanged duration b p → ⊥
   duration-grows assessed e there lasts =
       let none-yet = absent (progression b p) e in
       let day = suc (latestDay p) in

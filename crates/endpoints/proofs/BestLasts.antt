@@ -17,8 +17,7 @@ use Rattle.endpoints.specs.Lawful.{Past, latestDay, deathDay, died}
 use Rattle.endpoints.specs.Visits.{Judged, treated, judge, judged, firstPD, progression, counting}
 use Rattle.endpoints.specs.Pfs.{earlyDeath, pfs}
 use Rattle.endpoints.specs.Best.{isCR, isResponse, completeBefore, confirmedCR, confirmedResponse, stable, bestOf, best, firstResponse, durationOf, duration}
-use Rattle.endpoints.specs.Lasting.{Lasts}
-use Rattle.endpoints.proofs.Behind.{recorded-on, absent, recorded-keeps, Next, rising, lasts-by}
+use Rattle.endpoints.proofs.Behind.{recorded-on, absent, recorded-keeps, Next, rising, lasts-by, Unchanged}
 use Rattle.endpoints.proofs.Missing.{missing-answer, missing-progression, missing-evaluable}
 use Rattle.endpoints.proofs.PfsLasts.{PfsOver, progressed, dead, late, pfs-keeps}
 
@@ -125,7 +124,7 @@ best-keeps b p r n (complete e) =
     let k = confirmed-keeps b p r e in
     (complete k, confirmed-best b (r ∷ p) k ∙ sym (confirmed-best b p e))
 
-pub best-lasts : (b : Baseline) (p : Past) → BestOver b p → Lasts best b p
+pub best-lasts : (b : Baseline) (p : Past) → BestOver b p → Unchanged best b p
 best-lasts b p why = lasts-by best (BestOver b) b (best-keeps b) p why
 
 -- duration: PFS lasts, or there is none and no counting visit can make one
@@ -154,5 +153,5 @@ duration-keeps b p r n (without e c) =
     none-both w none e = refl
     none-both w (on d) e = rw e
 
-pub duration-lasts : (b : Baseline) (p : Past) → DurationOver b p → Lasts duration b p
+pub duration-lasts : (b : Baseline) (p : Past) → DurationOver b p → Unchanged duration b p
 duration-lasts b p why = lasts-by duration (DurationOver b) b (duration-keeps b) p why

@@ -18,7 +18,8 @@ use Rattle.endpoints.specs.Visits.{treated, progression}
 use Rattle.endpoints.specs.Pfs.{earlyDeath, pfs}
 use Rattle.endpoints.specs.Best.{isCR, isResponse, best, duration}
 use Rattle.endpoints.specs.Settled.{settledFrom, pfsSettledBy, bestSettledBy, durationSettledBy, pfsSettled, bestSettled, durationSettled}
-use Rattle.endpoints.specs.Lasting.{Lasts, MarksExact, Settling}
+use Rattle.endpoints.specs.Lasting.{MarksExact, Settling}
+use Rattle.endpoints.proofs.Behind.{Unchanged}
 use Rattle.endpoints.proofs.PfsLasts.{PfsOver, progressed, dead, late, pfs-lasts}
 use Rattle.endpoints.proofs.BestLasts.{CountingOver, closed, afterDeath, missing, BestOver, counted, complete, confirmed-best, best-lasts, ended, without, duration-lasts, missing-no-response}
 use Rattle.endpoints.proofs.PfsChanges.{pfs-changes, pfs-changes-missing}
@@ -80,32 +81,32 @@ module _ (b : Baseline) (p : Past) {A : Type 0} where
           fails (is false false false true eg et ed ea ∙ ec) (open-still ed ea et eg ec)
 
 module _ (b : Baseline) (p : Past) (passes : fieldsPass (baseline b) ≡ true) (lawfully : lawfulBehind b p ≡ true) where
-  pfs-exact : (pfsSettled b p ≡ true) ↔ Lasts pfs b p
+  pfs-exact : (pfsSettled b p ≡ true) ↔ Unchanged pfs b p
   pfs-exact =
       pfs-mark b p (pfs-lasts b p) (λ alive. pfs-changes b p alive passes lawfully) (λ alive. pfs-changes-missing b p alive passes lawfully)
 
-  best-exact : (bestSettled b p ≡ true) ↔ Lasts best b p
+  best-exact : (bestSettled b p ≡ true) ↔ Unchanged best b p
   best-exact = best-mark b p (best-lasts b p) (λ alive. best-changes b p alive passes lawfully)
 
   -- where a duration exists, and where not
-  grows : exists (duration b p) ≡ true → (pfsSettled b p ≡ true) ↔ Lasts duration b p
+  grows : exists (duration b p) ≡ true → (pfsSettled b p ≡ true) ↔ Unchanged duration b p
   grows there =
       pfs-mark b p (λ over. duration-lasts b p (ended over)) (λ alive assessed e. duration-grows b p alive passes lawfully assessed e there)
       (λ alive m early lasts. never (sym there ∙ duration-exists b p ∙ missing-no-response b p m))
 
-  begins : exists (duration b p) ≡ false → (bestSettled b p ≡ true) ↔ Lasts duration b p
+  begins : exists (duration b p) ≡ false → (bestSettled b p ≡ true) ↔ Unchanged duration b p
   begins not-there =
       best-mark b p by (λ alive assessed untreated e short. duration-begins b p alive passes lawfully assessed untreated e not-there)
     where
-      by : BestOver b p → Lasts duration b p
+      by : BestOver b p → Unchanged duration b p
       by (counted c) = duration-lasts b p (without (sym (duration-exists b p) ∙ not-there) c)
       by (complete e) = absurd (never (sym (ap isResponse (confirmed-best b p e)) ∙ sym (duration-exists b p) ∙ not-there))
 
-  duration-exact : (durationSettled b p ≡ true) ↔ Lasts duration b p
+  duration-exact : (durationSettled b p ≡ true) ↔ Unchanged duration b p
   unfolding durationSettled durationSettledBy
   duration-exact = go (exists (duration b p)) refl
     where
-      go : (x : Bool) → exists (duration b p) ≡ x → (durationSettled b p ≡ true) ↔ Lasts duration b p
+      go : (x : Bool) → exists (duration b p) ≡ x → (durationSettled b p ≡ true) ↔ Unchanged duration b p
       go true e = rw e (grows e)
       go false e = rw e (begins e)
 
@@ -114,8 +115,8 @@ settling =
     record {
       exact = λ b p passes lawfully.
           record {
-            pfsMark = pfs-exact b p passes lawfully;
-            bestMark = best-exact b p passes lawfully;
-            durationMark = duration-exact b p passes lawfully;
+            pfs = pfs-exact b p passes lawfully;
+            best = best-exact b p passes lawfully;
+            duration = duration-exact b p passes lawfully;
           };
     }

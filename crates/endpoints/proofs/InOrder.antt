@@ -6,10 +6,10 @@ use mathlib.Core.List.{List, [], _∷_, _++_, reverse, reverse-append, reverse-r
 use mathlib.Core.Logic.{_↔_}
 use Rattle.laws.specs.Choice.{both}
 use Rattle.laws.proofs.Tests.{both-true}
+use Rattle.endpoints.specs.Values.{Outcome}
 use Rattle.endpoints.specs.StudyRecords.{Baseline, StudyRecord, baseline, fieldsPass, allPass}
 use Rattle.endpoints.specs.Lawful.{Past, lawfulBehind, lawful}
-use Rattle.endpoints.specs.Pfs.{pfs}
-use Rattle.endpoints.specs.Best.{best, duration}
+use Rattle.endpoints.specs.Settled.{outcome}
 use Rattle.endpoints.specs.Lasting.{Lasts, LastsInOrder, Settling, SettlingInOrder}
 use Rattle.endpoints.proofs.Exact.{settling}
 
@@ -25,13 +25,13 @@ pass-reverse (r ∷ rs) e =
     let parts = both-true (fieldsPass r) (allPass rs) e in
     ap allPass (reverse-append (r ∷ []) rs) ∙ pass-append (reverse rs) (r ∷ []) (pass-reverse rs (parts .1)) (rw (parts .0))
 
-lasts-in-order : {A : Type 0} (part : Baseline → Past → A) (b : Baseline) (rs : List StudyRecord) → Lasts part b (reverse rs) ↔ LastsInOrder part b rs
+lasts-in-order : {A : Type 0} (part : Outcome → A) (b : Baseline) (rs : List StudyRecord) → Lasts part b (reverse rs) ↔ LastsInOrder part b rs
 lasts-in-order part b rs = (
   λ lasts run passes l.
-      ap (part b) (reverse-append rs run)
+      ap (λ (p : Past). part (outcome b p)) (reverse-append rs run)
       ∙ lasts (reverse run) (pass-reverse run passes) (ap (lawfulBehind b) (sym (reverse-append rs run)) ∙ l),
   λ lasts run passes l.
-      ap (part b) (sym (turned run)) ∙ lasts (reverse run) (pass-reverse run passes) (ap (lawfulBehind b) (turned run) ∙ l),
+      ap (λ (p : Past). part (outcome b p)) (sym (turned run)) ∙ lasts (reverse run) (pass-reverse run passes) (ap (lawfulBehind b) (turned run) ∙ l),
 )
   where
     turned : (run : Past) → reverse (rs ++ reverse run) ≡ run ++ reverse rs
@@ -46,8 +46,8 @@ settling-in-order =
       exact = λ b rs passes lawfully.
           let marks = settling .exact b (reverse rs) passes lawfully in
           record {
-            pfsMark = trans-iff (marks .pfsMark) (lasts-in-order pfs b rs);
-            bestMark = trans-iff (marks .bestMark) (lasts-in-order best b rs);
-            durationMark = trans-iff (marks .durationMark) (lasts-in-order duration b rs);
+            pfs = trans-iff (marks .pfs) (lasts-in-order (λ (o : Outcome). o .pfs) b rs);
+            best = trans-iff (marks .best) (lasts-in-order (λ (o : Outcome). o .best) b rs);
+            duration = trans-iff (marks .duration) (lasts-in-order (λ (o : Outcome). o .duration) b rs);
           };
     }

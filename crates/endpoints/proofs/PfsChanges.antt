@@ -14,8 +14,7 @@ use Rattle.endpoints.specs.StudyRecords.{Baseline, StudyRecord, baseline
 use Rattle.endpoints.specs.Lawful.{Past, latestDay, deathDay, died, lawfulBehind}
 use Rattle.endpoints.specs.Visits.{Judged, judge, judged, firstPD, progression}
 use Rattle.endpoints.specs.Pfs.{beforeEvent, lastEvaluable, earlyDeath, pfs}
-use Rattle.endpoints.specs.Lasting.{Lasts}
-use Rattle.endpoints.proofs.Behind.{absent, from-day-1}
+use Rattle.endpoints.proofs.Behind.{absent, from-day-1, Unchanged}
 use Rattle.endpoints.proofs.Missing.{missing-progression, missing-evaluable}
 use Rattle.endpoints.proofs.CompleteVisit.{completeVisit, complete-judged, complete-passes, complete-lawful}
 
@@ -69,7 +68,7 @@ module _ (b : Baseline) (p : Past) (alive : died p ≡ false) where
     unfolding pfs
     one-more-pfs assessed e = rw (complete-judged b p (suc (latestDay p)) passes assessed, e, absent (deathDay p) alive)
 
-    pub pfs-changes : b .assessed ≡ true → isRecorded (progression b p) ≡ false → Lasts pfs b p → ⊥
+    pub pfs-changes : b .assessed ≡ true → isRecorded (progression b p) ≡ false → Unchanged pfs b p → ⊥
     pfs-changes assessed e lasts =
         let none-yet = absent (progression b p) e in
         let same = lasts (visit (suc (latestDay p)) (completeVisit b) ∷ []) (rw (complete-passes b (suc (latestDay p)))) one-more-lawful in
@@ -86,7 +85,7 @@ module _ (b : Baseline) (p : Past) (alive : died p ≡ false) where
     death-lawful : lawfulBehind b (death (latestDay p) ∷ p) ≡ true
     death-lawful = rw (lawfully, alive, le-leb (latestDay p) (latestDay p) (omega arith))
 
-    pub pfs-changes-missing : b .assessed ≡ false → latestDay p - 1 ≤ earlyDeath → Lasts pfs b p → ⊥
+    pub pfs-changes-missing : b .assessed ≡ false → latestDay p - 1 ≤ earlyDeath → Unchanged pfs b p → ⊥
     pfs-changes-missing m h lasts =
         let same = lasts (death (latestDay p) ∷ []) refl death-lawful in
         let statuses : EVENT ≡ CENSORED = ap (λ (x : Pfs). x .status) (sym (early-death-pfs m h) ∙ same ∙ open-pfs (missing-progression b p m)) in

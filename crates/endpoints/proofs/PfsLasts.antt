@@ -16,8 +16,7 @@ use Rattle.endpoints.specs.Lawful.{Past, latestDay, deathDay, died}
 use Rattle.endpoints.specs.Visits.{Judged, treated, judge, judged, firstPD, progression, counting}
 use Rattle.endpoints.specs.Pfs.{earlyDeath, pfs}
 use Rattle.endpoints.specs.Best.{isCR, isResponse, completeBefore, confirmedCR, confirmedResponse, stable, bestOf, best, firstResponse, durationOf, duration}
-use Rattle.endpoints.specs.Lasting.{Lasts}
-use Rattle.endpoints.proofs.Behind.{recorded-on, absent, recorded-keeps, Next, rising, lasts-by}
+use Rattle.endpoints.proofs.Behind.{recorded-on, absent, recorded-keeps, Next, rising, lasts-by, Unchanged}
 use Rattle.endpoints.proofs.Missing.{missing-answer, missing-progression, missing-evaluable}
 
 -- PFS: a progression or a death is recorded, or the baseline is missing and a death from now on is no early one
@@ -54,5 +53,5 @@ module _ (b : Baseline) (p : Past) where
       let up = rising b (latestDay p) r (n .place) in
       (late m (omega arith), pfs-late r m (absent (deathDay p) (n .alive)) (omega arith))
 
-pub pfs-lasts : (b : Baseline) (p : Past) → PfsOver b p → Lasts pfs b p
+pub pfs-lasts : (b : Baseline) (p : Past) → PfsOver b p → Unchanged pfs b p
 pfs-lasts b p why = lasts-by pfs (PfsOver b) b (pfs-keeps b) p why

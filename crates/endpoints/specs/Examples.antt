@@ -16,9 +16,8 @@ use Rattle.endpoints.specs.Values.{Pfs, event, censored, Duration, noDur
 use Rattle.endpoints.specs.StudyRecords.{Baseline, StudyRecord, baseline, visit, therapy, death, disease, allPass}
 use Rattle.endpoints.specs.Lawful.{Past, lawful}
 use Rattle.endpoints.specs.Visits.{visitsOf}
-use Rattle.endpoints.specs.Pfs.{pfs}
-use Rattle.endpoints.specs.Best.{isCR, best, duration}
-use Rattle.endpoints.specs.Settled.{pfsSettled}
+use Rattle.endpoints.specs.Best.{isCR}
+use Rattle.endpoints.specs.Settled.{outcome}
 
 -- one target of this size and no other disease
 abbrev pub oneTarget : ℕ → Baseline
@@ -110,16 +109,16 @@ abbrev pub targetCR : Baseline → Past → Said
 targetCR b p = is (isCR (lastTarget b p))
 
 abbrev pub pfsOfList : Baseline → Past → Said
-pfsOfList b p = pfsIs (pfs b p)
+pfsOfList b p = pfsIs (outcome b p .pfs)
 
 abbrev pub bestOfList : Baseline → Past → Said
-bestOfList b p = bestIs (best b p)
+bestOfList b p = bestIs (outcome b p .best)
 
 abbrev pub durationOfList : Baseline → Past → Said
-durationOfList b p = durationIs (duration b p)
+durationOfList b p = durationIs (outcome b p .duration)
 
 abbrev pub pfsSettledOfList : Baseline → Past → Said
-pfsSettledOfList b p = is (pfsSettled b p)
+pfsSettledOfList b p = is (outcome b p .pfsSettled)
 
 -- a baseline, the records behind it in the order recorded, what is asked, and the paper's answer
 pub record Example : Type 0 where

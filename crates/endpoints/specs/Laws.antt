@@ -8,9 +8,10 @@ use Prim.Native.Nat.{ℕ, _<_}
 use Rattle.dates.specs.declared.Date.{Date}
 use Rattle.dates.specs.Calendar.{dayNumber}
 use Rattle.records.specs.declared.Record.{Record}
-use Rattle.records.specs.Form.{dateOf}
+use Rattle.records.specs.Form.{dateOf, Five}
+use Rattle.records.specs.Refusals.{refusalOf}
 use Rattle.endpoints.specs.Values.{exists}
-use Rattle.endpoints.specs.StudyRecords.{Baseline, StudyRecord, dayOf, onStudyDay, onStudyDays}
+use Rattle.endpoints.specs.StudyRecords.{Baseline, StudyRecord, dayOf, fieldsPass, onStudyDay, onStudyDays}
 use Rattle.endpoints.specs.Lawful.{Past, latestDay, lawfulBehind, lawful}
 use Rattle.endpoints.specs.Best.{isResponse, best, duration}
 use Rattle.endpoints.specs.Adding.{isBaseline, tooEarly, refusalBehind, refusalOfOpening, Call, accepted}
@@ -28,5 +29,7 @@ pub record AddingLaws : Type 0 where
   -- a date before randomisation is too early after any list, also where day 1 is not
   pub beforeRandomisation : (randomisation : Date) (p : Past) (r : Record) → isBaseline (onStudyDay randomisation r) ≡ false →
       dayNumber (dateOf (r .entry)) < dayNumber randomisation → tooEarly (latestDay p) (onStudyDay randomisation r) ≡ true
+  -- a record that none of its own refusals meets passes 4 and 5 on its study day
+  pub ownPassed : (randomisation : Date) (r : Record) → Five r → refusalOf r ≡ 0 → fieldsPass (onStudyDay randomisation r) ≡ true
   -- from an accepted opening every list of calls leads to a lawful list
   pub acceptedLawful : (b : Record) (cs : List Call) → refusalOfOpening b ≡ 0 → lawful (onStudyDays (accepted b cs)) ≡ true

@@ -5,7 +5,7 @@ use mathlib.Core.Bool.{Bool, not}
 use lib.Dec.{leb}
 use Rattle.laws.specs.Choice.{either, pick}
 use Rattle.criteria.specs.Words.{Word}
-use Rattle.endpoints.specs.Values.{isRecorded, Pfs, Duration, exists}
+use Rattle.endpoints.specs.Values.{isRecorded, Duration, exists, Outcome}
 use Rattle.endpoints.specs.StudyRecords.{Baseline}
 use Rattle.endpoints.specs.Lawful.{Past, latestDay, died}
 use Rattle.endpoints.specs.Visits.{treated, progression}
@@ -39,21 +39,13 @@ unfoldable pub durationSettled : Baseline → Past → Bool
 durationSettled b p = durationSettledBy (duration b p) (pfsSettled b p) (bestSettled b p)
 
 -- the outcome with its marks
-pub record Outcome : Type 0 where
-  pub pfs· : Pfs
-  pub best· : Word
-  pub duration· : Duration
-  pub pfsMark : Bool
-  pub bestMark : Bool
-  pub durationMark : Bool
-
-unfoldable pub outcome : Baseline → Past → Outcome
+abbrev pub outcome : Baseline → Past → Outcome
 outcome b p =
     record {
-      pfs· = pfs b p;
-      best· = best b p;
-      duration· = duration b p;
-      pfsMark = pfsSettled b p;
-      bestMark = bestSettled b p;
-      durationMark = durationSettled b p;
+      pfs = pfs b p;
+      best = best b p;
+      duration = duration b p;
+      pfsSettled = pfsSettled b p;
+      bestSettled = bestSettled b p;
+      durationSettled = durationSettled b p;
     }

@@ -55,6 +55,15 @@ abbrev pub exists : Duration → Bool
 exists noDuration = false
 exists (lasted s n) = true
 
+-- the outcome: its three parts, and for each whether it is settled
+pub record Outcome : Type 0 where
+  pub pfs : Pfs
+  pub best : Word
+  pub duration : Duration
+  pub pfsSettled : Bool
+  pub bestSettled : Bool
+  pub durationSettled : Bool
+
 -- the declared cases
 abbrev pub dayValue : MaybeDay → Day
 dayValue M.Absent = none
