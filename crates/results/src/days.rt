@@ -1,0 +1,25 @@
+// Days apart, and a day that may be absent.
+use dates::StudyDay;
+use endpoints::MaybeDay;
+ghost use mathlib.Core.Path.{_≡_};
+ghost use Prim.Native.Nat.{_-_};
+ghost use Rattle.endpoints.specs.Values.{orDay1, dayValue};
+
+// 0 where `to` is the earlier.
+pub(crate) fn days_between(from: StudyDay, to: StudyDay) -> u32
+    ensures { λ r. ⌜ r ≡ to .0 - from .0 ⌝ }
+{
+    if to.0 <= from.0 {
+        return 0;
+    }
+    to.0 - from.0
+}
+
+pub(crate) fn or_day_1(day: MaybeDay) -> StudyDay
+    ensures { λ r. ⌜ r .0 ≡ orDay1 (dayValue day) ⌝ }
+{
+    match day {
+        MaybeDay::Absent => StudyDay(1),
+        MaybeDay::On(d) => d,
+    }
+}

@@ -1,0 +1,10 @@
+// The parts of the outcome from plain values: progression-free survival (PFS), best response and duration (document 01, "Outcome"). The
+// definitions stand in the crate `endpoints`, where they take these values from lists of records.
+mod days; // days.rt: days apart, and a day that may be absent
+mod gap; // gap.rt: two visits missed
+mod pfs; // pfs.rt: progression-free survival
+mod best; // best.rt: best response and duration
+
+pub use best::best_of;
+pub use best::duration_of;
+pub use pfs::pfs_of;
