@@ -1,4 +1,4 @@
-pub mod Examples
+pub mod AtTheEdges
 pub mod Behind
 pub mod Missing
 pub mod PfsLasts
@@ -8,4 +8,4 @@ pub mod PfsChanges
 pub mod BestChanges
 pub mod Exact
 pub mod InOrder
-pub mod Accepted
+pub mod Refusals

@@ -1,5 +1,5 @@
 -- Document 01, "Examples at the edges": the starred ones as one list, each a question on a list of records with the paper's answer; proved in
--- proofs/Examples.antt.
+-- proofs/AtTheEdges.antt.
 -- Assumes nothing.
 use mathlib.Core.Path.{_≡_}
 use mathlib.Core.Bool.{Bool, true, false}
@@ -51,16 +51,19 @@ missing =
       sizes = 0 ∷ 0 ∷ 0 ∷ 0 ∷ 0 ∷ [];
     }
 
--- on a day, of the one target: measured, and not evaluable
-abbrev pub size : ℕ → ℕ → StudyRecord
-size d n =
+-- on a day, of the one target: measured, with this non-target status or with NA, and not measured
+abbrev pub withStatus : ℕ → ℕ → Status → StudyRecord
+withStatus d n s =
     visit d
     (record {
-      status = S.NA;
+      status = s;
       newLesion = false;
       measured = true ∷ false ∷ false ∷ false ∷ false ∷ [];
       sizes = n ∷ 0 ∷ 0 ∷ 0 ∷ 0 ∷ [];
     })
+
+abbrev pub size : ℕ → ℕ → StudyRecord
+size d n = withStatus d n S.NA
 
 abbrev pub unmeasured : ℕ → StudyRecord
 unmeasured d =
@@ -72,15 +75,15 @@ unmeasured d =
       sizes = 0 ∷ 0 ∷ 0 ∷ 0 ∷ 0 ∷ [];
     })
 
--- on a day, of the target and the node: the target gone, the node and the non-target status as given
-abbrev pub node : ℕ → ℕ → Status → StudyRecord
-node d n s =
+-- on a day, of the target and the node: both measured, and the non-target status
+abbrev pub twoSizes : ℕ → ℕ → ℕ → Status → StudyRecord
+twoSizes d n k s =
     visit d
     (record {
       status = s;
       newLesion = false;
       measured = true ∷ true ∷ false ∷ false ∷ false ∷ [];
-      sizes = 0 ∷ n ∷ 0 ∷ 0 ∷ 0 ∷ [];
+      sizes = n ∷ k ∷ 0 ∷ 0 ∷ 0 ∷ [];
     })
 
 -- what an example says
@@ -120,6 +123,12 @@ durationOfList b p = durationIs (outcome b p .duration)
 abbrev pub pfsSettledOfList : Baseline → Past → Said
 pfsSettledOfList b p = is (outcome b p .pfsSettled)
 
+abbrev pub bestSettledOfList : Baseline → Past → Said
+bestSettledOfList b p = is (outcome b p .bestSettled)
+
+abbrev pub durationSettledOfList : Baseline → Past → Said
+durationSettledOfList b p = is (outcome b p .durationSettled)
+
 -- a baseline, the records behind it in the order recorded, what is asked, and the paper's answer
 pub record Example : Type 0 where
   pub opening : Baseline
@@ -130,8 +139,8 @@ pub record Example : Type 0 where
 abbrev pub after : Baseline → List StudyRecord → (Baseline → Past → Said) → Said → Example
 after b rs f a = record { opening = b; behind = rs; asked = f; paper = a }
 
-unfoldable pub examples : List Example
-examples =
+unfoldable pub starred : List Example
+starred =
     -- 1: baseline sum 100, sum 70 PR, 71 SD
     after (oneTarget 100) (size 43 70 ∷ []) targetOf (target PR)
     ∷ after (oneTarget 100) (size 43 71 ∷ []) targetOf (target SD)
@@ -142,8 +151,8 @@ examples =
     ∷ after (oneTarget 100) (size 43 50 ∷ size 85 59 ∷ []) targetPD (is false)
     ∷ after (oneTarget 100) (size 43 50 ∷ size 85 60 ∷ []) targetPD (is true)
     -- 4: node 9, rest 0, CR; node 10 not
-    ∷ after withNode (node 43 9 S.CR ∷ []) targetCR (is true)
-    ∷ after withNode (node 43 10 S.CR ∷ []) targetCR (is false)
+    ∷ after withNode (twoSizes 43 0 9 S.CR ∷ []) targetCR (is true)
+    ∷ after withNode (twoSizes 43 0 10 S.CR ∷ []) targetCR (is false)
     -- 5: SD 119, PD 217 event, PD 218 censored 119
     ∷ after (oneTarget 100) (size 119 90 ∷ size 217 200 ∷ []) pfsOfList (pfsIs (event 217))
     ∷ after (oneTarget 100) (size 119 90 ∷ size 218 200 ∷ []) pfsOfList (pfsIs (censored 119))
@@ -163,7 +172,7 @@ examples =
     ∷ after missing (therapy 92 ∷ []) pfsSettledOfList (is false)
     ∷ after missing (therapy 93 ∷ []) pfsSettledOfList (is true)
     -- 13: CR 43, PR 85 (target CR, non-target NE), CR 127, best PR
-    ∷ after withNode (node 43 9 S.CR ∷ node 85 9 S.NE ∷ node 127 9 S.CR ∷ []) bestOfList (bestIs PR)
+    ∷ after withNode (twoSizes 43 0 9 S.CR ∷ twoSizes 85 0 9 S.NE ∷ twoSizes 127 0 9 S.CR ∷ []) bestOfList (bestIs PR)
     -- 15: PR 43, therapy 50, PR 85, PD 127, PFS event 127, best SD, no duration
     ∷ after (oneTarget 100) (size 43 60 ∷ therapy 50 ∷ size 85 60 ∷ size 127 200 ∷ []) pfsOfList (pfsIs (event 127))
     ∷ after (oneTarget 100) (size 43 60 ∷ therapy 50 ∷ size 85 60 ∷ size 127 200 ∷ []) bestOfList (bestIs SD)
@@ -184,6 +193,7 @@ abbrev pub allLawful : List Example → Bool
 allLawful [] = true
 allLawful (e ∷ es) = both (isLawful e) (allLawful es)
 
-pub record Starred : Type 0 where
-  pub lawfulLists : allLawful examples ≡ true
-  pub answers : map answered examples ≡ map paperOf examples
+-- every list is lawful, and every answer is the paper's
+pub record Hold (es : List Example) : Type 0 where
+  pub lawfulLists : allLawful es ≡ true
+  pub answers : map answered es ≡ map paperOf es

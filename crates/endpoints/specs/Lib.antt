@@ -9,3 +9,5 @@ pub mod Lasting
 pub mod Adding
 pub mod Laws
 pub mod Examples
+pub mod FurtherExamples
+pub mod AddingExamples

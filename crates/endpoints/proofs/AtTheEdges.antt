@@ -1,0 +1,60 @@
+-- The examples are computed by the definitions.
+-- Assumes nothing.
+use mathlib.Core.Path.{refl}
+use Rattle.dates.specs.Calendar.{leapYear, daysInMonth, dateExists, daysOfYears, daysOfMonths, dayNumber}
+use Rattle.dates.specs.Answers.{studyDayOf}
+use Rattle.records.specs.Refusals.{wrongSize, largeMeasured, setBeyond, sizedUnmeasured, withoutDisease, outsideLimits, notZero, refusalOfRead}
+use Rattle.criteria.specs.Sums.{measuredSum, baselineSum, allMeasured}
+use Rattle.criteria.specs.Targets.{allGone, grown, shrunk, targetAnswer}
+use Rattle.criteria.specs.Nadir.{nadirOf}
+use Rattle.criteria.specs.Overall.{overallAnswer}
+use Rattle.endpoints.specs.StudyRecords.{fieldsOfPass}
+use Rattle.endpoints.specs.Lawful.{fits}
+use Rattle.endpoints.specs.Visits.{judge}
+use Rattle.endpoints.specs.Pfs.{gapLimit, earlyDeath, pfs}
+use Rattle.endpoints.specs.Best.{best, duration}
+use Rattle.endpoints.specs.Settled.{settledFrom, pfsSettledBy, bestSettledBy, durationSettledBy, pfsSettled, bestSettled, durationSettled}
+use Rattle.endpoints.specs.Adding.{refusalBehind, refusalOfOpening, refusalOfAdding}
+use Rattle.endpoints.specs.Examples.{starred, Hold}
+use Rattle.endpoints.specs.FurtherExamples.{further}
+use Rattle.endpoints.specs.AddingExamples.{Unlawful, FirstRefusals}
+
+pub examples-hold : Hold starred × Hold further
+unfolding starred further fieldsOfPass wrongSize largeMeasured setBeyond sizedUnmeasured withoutDisease outsideLimits notZero fits measuredSum baselineSum allMeasured allGone grown shrunk targetAnswer nadirOf overallAnswer judge gapLimit earlyDeath pfs best duration settledFrom pfsSettledBy bestSettledBy durationSettledBy pfsSettled bestSettled durationSettled
+examples-hold = (record { lawfulLists = refl; answers = refl }, record { lawfulLists = refl; answers = refl })
+
+pub unlawful : Unlawful
+unfolding fits
+unlawful =
+    record {
+      withoutBaseline = refl;
+      secondBaseline = refl;
+      afterDeath = refl;
+      earlyTherapy = refl;
+      visitOnLatest = refl;
+      visitOnDay1 = refl;
+      beyondCount = refl;
+      statusOfNone = refl;
+      noStatus = refl;
+    }
+
+pub first-refusals : FirstRefusals
+unfolding refusalOfOpening refusalOfAdding refusalBehind refusalOfRead dateExists daysInMonth leapYear daysOfYears daysOfMonths dayNumber studyDayOf fits wrongSize largeMeasured setBeyond sizedUnmeasured withoutDisease outsideLimits notZero
+first-refusals =
+    record {
+      opens = refl;
+      opensWithVisit = refl;
+      secondBaseline = refl;
+      withoutDate = refl;
+      afterDeath = refl;
+      dayBefore = refl;
+      therapyOnDay1 = refl;
+      visitOnDay1 = refl;
+      therapyOnLatest = refl;
+      visitOnLatest = refl;
+      misfitOnLatest = refl;
+      statusNA = refl;
+      beyondCount = refl;
+      fitting = refl;
+      calls = refl;
+    }
