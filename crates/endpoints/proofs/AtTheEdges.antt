@@ -8,7 +8,7 @@ use Rattle.criteria.specs.Sums.{measuredSum, baselineSum, allMeasured}
 use Rattle.criteria.specs.Targets.{allGone, grown, shrunk, targetAnswer}
 use Rattle.criteria.specs.Nadir.{nadirOf}
 use Rattle.criteria.specs.Overall.{overallAnswer}
-use Rattle.endpoints.specs.StudyRecords.{fieldsOfPass}
+use Rattle.endpoints.specs.StudyRecords.{entryPasses}
 use Rattle.endpoints.specs.Lawful.{fits}
 use Rattle.endpoints.specs.Visits.{judge}
 use Rattle.endpoints.specs.Pfs.{gapLimit, earlyDeath, pfs}
@@ -20,7 +20,7 @@ use Rattle.endpoints.specs.FurtherExamples.{further}
 use Rattle.endpoints.specs.AddingExamples.{Unlawful, FirstRefusals}
 
 pub examples-hold : Hold starred × Hold further
-unfolding starred further fieldsOfPass wrongSize largeMeasured setBeyond sizedUnmeasured withoutDisease outsideLimits notZero fits measuredSum baselineSum allMeasured allGone grown shrunk targetAnswer nadirOf overallAnswer judge gapLimit earlyDeath pfs best duration settledFrom pfsSettledBy bestSettledBy durationSettledBy pfsSettled bestSettled durationSettled
+unfolding starred further entryPasses wrongSize largeMeasured setBeyond sizedUnmeasured withoutDisease outsideLimits notZero fits measuredSum baselineSum allMeasured allGone grown shrunk targetAnswer nadirOf overallAnswer judge gapLimit earlyDeath pfs best duration settledFrom pfsSettledBy bestSettledBy durationSettledBy pfsSettled bestSettled durationSettled
 examples-hold = (record { lawfulLists = refl; answers = refl }, record { lawfulLists = refl; answers = refl })
 
 pub unlawful : Unlawful

@@ -1,16 +1,15 @@
 -- One record more behind a lawful list, and days that are recorded or absent.
 -- Assumes nothing.
 use mathlib.Core.Path.{_≡_, refl, sym, _∙_}
-use mathlib.Core.Bool.{Bool, true, false, not}
-use mathlib.Core.List.{List, [], _∷_, _++_}
-use Prim.Native.Nat.{ℕ, _≤_, _<_, max}
+use mathlib.Core.Bool.{true, false, not}
+use mathlib.Core.List.{[], _∷_, _++_}
+use Prim.Native.Nat.{ℕ, _≤_}
 use native.Mathlib.Omega.{arith}
 use lib.Dec.{ltb}
 use borrow.Author.Tests.{leb-true, ltb-true, not-true}
-use Rattle.laws.specs.Choice.{both}
 use Rattle.laws.proofs.Tests.{never, both-true}
 use Rattle.endpoints.specs.Values.{Day, none, on, isRecorded, _orElse_}
-use Rattle.endpoints.specs.StudyRecords.{Baseline, StudyRecord, baseline, visit, therapy, death, dayOf, fieldsPass, allPass}
+use Rattle.endpoints.specs.StudyRecords.{Baseline, StudyRecord, baseline, visit, therapy, death, dayOf, allPass}
 use Rattle.endpoints.specs.Lawful.{Past, latestDay, died, fits, placed, lawfulBehind}
 
 pub recorded-on : (x : Day) → isRecorded x ≡ true → (d : ℕ) × (x ≡ on d)

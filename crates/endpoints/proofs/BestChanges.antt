@@ -3,23 +3,23 @@
 use mathlib.Core.Path.{_≡_, refl, sym, ap, _∙_}
 use mathlib.Core.Bool.{Bool, true, false}
 use mathlib.Core.List.{List, [], _∷_}
-use Prim.Native.Nat.{ℕ, suc, _+_, _-_, _≤_, _<_, max}
+use Prim.Native.Nat.{ℕ, suc, _+_, _-_, _≤_}
 use native.Mathlib.Omega.{arith}
 use borrow.Author.Tests.{le-leb}
 use Rattle.laws.specs.Choice.{both, either, pick}
-use Rattle.laws.proofs.Tests.{never, either-with-true}
+use Rattle.laws.proofs.Tests.{never}
 use Rattle.criteria.specs.Words.{Word, CR, PR, SD, PD, NE, NA, NN}
 use Rattle.criteria.specs.Inputs.{Visit}
-use Rattle.endpoints.specs.Values.{Day, none, on, isRecorded, _orElse_, orDay1, Pfs, Ending, CENSORED, censored, Duration, noDuration, lasted, exists}
-use Rattle.endpoints.specs.StudyRecords.{Baseline, StudyRecord, baseline, visit, therapy, death, fieldsPass}
-use Rattle.endpoints.specs.Lawful.{Past, latestDay, deathDay, died, lawfulBehind}
-use Rattle.endpoints.specs.Visits.{Judged, treated, judge, judged, firstPD, progression, counting}
+use Rattle.endpoints.specs.Values.{Day, none, on, isRecorded, _orElse_, orDay1, Pfs, Ending, Duration, noDuration, lasted, exists}
+use Rattle.endpoints.specs.StudyRecords.{Baseline, baseline, visit, therapy, death, fieldsPass}
+use Rattle.endpoints.specs.Lawful.{Past, latestDay, died, lawfulBehind}
+use Rattle.endpoints.specs.Visits.{Judged, treated, judge, firstPD, progression, counting}
 use Rattle.endpoints.specs.Pfs.{pfs}
 use Rattle.endpoints.specs.Best.{isCR, isResponse, confirmDays, completeBefore, confirmedCR, responseBefore, confirmedResponse, stable, bestOf, best, firstResponse, durationOf, duration}
 use Rattle.endpoints.proofs.Behind.{recorded-on, absent, from-day-1, Unchanged}
 use Rattle.endpoints.proofs.BestLasts.{confirmed-best}
 use Rattle.endpoints.proofs.CompleteVisit.{completeVisit, complete-judged, complete-passes, complete-lawful}
-use Rattle.endpoints.proofs.PfsChanges.{Until, censoredOn, censored-until, open-pfs, oneMore, one-more-lawful, one-more-pfs}
+use Rattle.endpoints.proofs.PfsChanges.{Until, censored-until, open-pfs, oneMore, one-more-lawful, one-more-pfs}
 
 -- best response by its parts
 pub best-CR : (b : Baseline) (p : Past) → isCR (best b p) ≡ confirmedCR (counting b p)

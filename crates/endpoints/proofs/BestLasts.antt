@@ -4,21 +4,18 @@
 use mathlib.Core.Path.{_≡_, refl, sym, ap, _∙_}
 use mathlib.Core.Bool.{Bool, true, false, not}
 use mathlib.Core.List.{List, [], _∷_}
-use Prim.Native.Nat.{ℕ, _-_, _≤_, _<_, max}
-use native.Mathlib.Omega.{arith}
-use borrow.Author.Tests.{lt-leb}
+use Prim.Native.Nat.{_-_}
 use Rattle.laws.specs.Choice.{both, either, pick}
 use Rattle.laws.proofs.Tests.{never, either-with-true}
-use Rattle.criteria.specs.Words.{Word, CR, PR, SD, PD, NE, NA, NN}
-use Rattle.criteria.specs.Inputs.{Visit}
-use Rattle.endpoints.specs.Values.{Day, none, on, isRecorded, _orElse_, exists, noDuration}
-use Rattle.endpoints.specs.StudyRecords.{Baseline, StudyRecord, baseline, visit, therapy, death, dayOf}
-use Rattle.endpoints.specs.Lawful.{Past, latestDay, deathDay, died}
-use Rattle.endpoints.specs.Visits.{Judged, treated, judge, judged, firstPD, progression, counting}
-use Rattle.endpoints.specs.Pfs.{earlyDeath, pfs}
+use Rattle.criteria.specs.Words.{Word, CR, NE}
+use Rattle.endpoints.specs.Values.{Day, none, on, isRecorded, _orElse_}
+use Rattle.endpoints.specs.StudyRecords.{Baseline, StudyRecord, baseline, visit, therapy, death}
+use Rattle.endpoints.specs.Lawful.{Past, died}
+use Rattle.endpoints.specs.Visits.{Judged, treated, judge, firstPD, progression, counting}
+use Rattle.endpoints.specs.Pfs.{pfs}
 use Rattle.endpoints.specs.Best.{isCR, isResponse, completeBefore, confirmedCR, confirmedResponse, stable, bestOf, best, firstResponse, durationOf, duration}
-use Rattle.endpoints.proofs.Behind.{recorded-on, absent, recorded-keeps, Next, rising, lasts-by, Unchanged}
-use Rattle.endpoints.proofs.Missing.{missing-answer, missing-progression, missing-evaluable}
+use Rattle.endpoints.proofs.Behind.{recorded-keeps, Next, lasts-by, Unchanged}
+use Rattle.endpoints.proofs.Missing.{missing-answer}
 use Rattle.endpoints.proofs.PfsLasts.{PfsOver, progressed, dead, late, pfs-keeps}
 
 -- counting visits: none is to come, or none that is to come is evaluable

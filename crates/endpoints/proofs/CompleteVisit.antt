@@ -1,10 +1,9 @@
 -- A visit at which all disease is gone: behind any list it may be recorded on a later day, and its overall answer is CR.
 -- Assumes nothing.
-use mathlib.Core.Path.{_≡_, refl, sym, ap, _∙_}
+use mathlib.Core.Path.{_≡_, refl}
 use mathlib.Core.Bool.{Bool, true, false, not}
 use mathlib.Core.List.{List, [], _∷_}
-use Prim.Native.Nat.{ℕ, _≤_, _<_}
-use native.Mathlib.Omega.{arith}
+use Prim.Native.Nat.{ℕ, _<_}
 use lib.Dec.{leb, ltb, eqb}
 use lib.ListN.{length}
 use borrow.Author.Tests.{le-leb, lt-leb, lt-ltb, ltb-true, ltb-false, not-true}
@@ -16,15 +15,15 @@ use Rattle.records.specs.declared.BaselineEntry.{BaselineEntry}
 use Rattle.records.specs.declared.Entry.{Entry}
 use Rattle.records.specs.declared.Entry.the-variants as E
 use Rattle.records.specs.Refusals.{mostTargets, wrongSize, largeMeasured, sizedUnmeasured, someTarget, withoutDisease, outsideLimits, notZero}
-use Rattle.criteria.specs.Words.{Word, CR, NA, statusWord}
+use Rattle.criteria.specs.Words.{CR, NA, statusWord}
 use Rattle.criteria.specs.Inputs.{Visit}
 use Rattle.criteria.specs.Sums.{allMeasured}
 use Rattle.criteria.specs.Targets.{gone, allGone, targetAnswer}
 use Rattle.criteria.specs.Overall.{overallAnswer}
 use Rattle.criteria.specs.Visits.{visitTarget}
-use Rattle.endpoints.specs.StudyRecords.{Baseline, baseline, visit, disease, fieldsOfPass, entryOfBaseline, fieldsPass}
+use Rattle.endpoints.specs.StudyRecords.{Baseline, baseline, visit, disease, entryPasses, entryOfBaseline, fieldsPass}
 use Rattle.endpoints.specs.Lawful.{Past, latestDay, died, fits, lawfulBehind}
-use Rattle.endpoints.specs.Visits.{Judged, visitsOf, judge}
+use Rattle.endpoints.specs.Visits.{visitsOf, judge}
 
 -- every target measured with size 0, non-target disease CR where there was some
 unfoldable pub completeVisit : Baseline → Visit
@@ -66,8 +65,8 @@ not-sized true = refl
 not-sized false = refl
 
 -- 4 meets no field that passes
-inside-limits : (e : Entry) (marks : List Bool) (sizes : List ℕ) → fieldsOfPass e marks sizes ≡ true → outsideLimits e marks sizes ≡ false
-unfolding fieldsOfPass
+inside-limits : (e : Entry) (marks : List Bool) (sizes : List ℕ) → entryPasses e marks sizes ≡ true → outsideLimits e marks sizes ≡ false
+unfolding entryPasses
 inside-limits e marks sizes passes =
     let five = both (eqb (length marks) mostTargets) (eqb (length sizes) mostTargets) in
     let clear = both-true five (not (either (outsideLimits e marks sizes) (notZero e marks sizes))) passes .1 in
@@ -128,7 +127,7 @@ module _ (b : Baseline) where
       go false = refl
 
   pub complete-passes : (d : ℕ) → fieldsPass (visit d (completeVisit b)) ≡ true
-  unfolding fieldsOfPass outsideLimits notZero completeVisit
+  unfolding entryPasses outsideLimits notZero completeVisit
   complete-passes d = simp (not-large, not-sized)
 
   pub complete-lawful : (p : Past) (d : ℕ) → lawfulBehind b p ≡ true → died p ≡ false → latestDay p < d →

@@ -2,15 +2,12 @@
 -- Assumes nothing.
 use mathlib.Core.Path.{_≡_, refl, sym, ap, _∙_}
 use mathlib.Core.Bool.{Bool, true, false}
-use mathlib.Core.List.{List, [], _∷_}
 use mathlib.Core.Logic.{_↔_}
-use Prim.Native.Nat.{ℕ, _-_, _≤_}
+use Prim.Native.Nat.{_-_, _≤_}
 use native.Mathlib.Omega.{arith}
 use lib.Dec.{leb}
 use borrow.Author.Tests.{leb-true, leb-false}
-use Rattle.laws.specs.Choice.{either}
 use Rattle.laws.proofs.Tests.{never, either-with-true}
-use Rattle.criteria.specs.Words.{Word, CR}
 use Rattle.endpoints.specs.Values.{isRecorded, exists}
 use Rattle.endpoints.specs.StudyRecords.{Baseline, baseline, fieldsPass}
 use Rattle.endpoints.specs.Lawful.{Past, latestDay, died, lawfulBehind}
@@ -18,10 +15,10 @@ use Rattle.endpoints.specs.Visits.{treated, progression}
 use Rattle.endpoints.specs.Pfs.{earlyDeath, pfs}
 use Rattle.endpoints.specs.Best.{isCR, isResponse, best, duration}
 use Rattle.endpoints.specs.Settled.{settledFrom, pfsSettledBy, bestSettledBy, durationSettledBy, pfsSettled, bestSettled, durationSettled}
-use Rattle.endpoints.specs.Lasting.{MarksExact, Settling}
+use Rattle.endpoints.specs.Lasting.{Settling}
 use Rattle.endpoints.proofs.Behind.{Unchanged}
 use Rattle.endpoints.proofs.PfsLasts.{PfsOver, progressed, dead, late, pfs-lasts}
-use Rattle.endpoints.proofs.BestLasts.{CountingOver, closed, afterDeath, missing, BestOver, counted, complete, confirmed-best, best-lasts, ended, without, duration-lasts, missing-no-response}
+use Rattle.endpoints.proofs.BestLasts.{closed, afterDeath, missing, BestOver, counted, complete, confirmed-best, best-lasts, ended, without, duration-lasts, missing-no-response}
 use Rattle.endpoints.proofs.PfsChanges.{pfs-changes, pfs-changes-missing}
 use Rattle.endpoints.proofs.BestChanges.{best-CR, duration-exists, best-changes, duration-begins, duration-grows}
 

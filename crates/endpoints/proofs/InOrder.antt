@@ -1,16 +1,15 @@
 -- The marks are exact in the order recorded: a run behind a list is a run in front of the list with the newest first, reversed.
 -- Assumes nothing.
 use mathlib.Core.Path.{_≡_, refl, sym, ap, _∙_}
-use mathlib.Core.Bool.{Bool, true, false}
+use mathlib.Core.Bool.{true}
 use mathlib.Core.List.{List, [], _∷_, _++_, reverse, reverse-append, reverse-reverse}
 use mathlib.Core.Logic.{_↔_}
-use Rattle.laws.specs.Choice.{both}
 use Rattle.laws.proofs.Tests.{both-true}
 use Rattle.endpoints.specs.Values.{Outcome}
-use Rattle.endpoints.specs.StudyRecords.{Baseline, StudyRecord, baseline, fieldsPass, allPass}
-use Rattle.endpoints.specs.Lawful.{Past, lawfulBehind, lawful}
+use Rattle.endpoints.specs.StudyRecords.{Baseline, StudyRecord, fieldsPass, allPass}
+use Rattle.endpoints.specs.Lawful.{Past, lawfulBehind}
 use Rattle.endpoints.specs.Settled.{outcome}
-use Rattle.endpoints.specs.Lasting.{Lasts, LastsInOrder, Settling, SettlingInOrder}
+use Rattle.endpoints.specs.Lasting.{Lasts, LastsInOrder, SettlingInOrder}
 use Rattle.endpoints.proofs.Exact.{settling}
 
 pass-append : (rs ss : List StudyRecord) → allPass rs ≡ true → allPass ss ≡ true → allPass (rs ++ ss) ≡ true

@@ -9,3 +9,5 @@ pub mod BestChanges
 pub mod Exact
 pub mod InOrder
 pub mod Refusals
+pub mod Calls
+pub mod Laws

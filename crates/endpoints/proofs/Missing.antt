@@ -1,16 +1,16 @@
 -- With baseline missing every overall answer is NE: there is no progression, and no visit is evaluable.
 -- Assumes nothing.
 use mathlib.Core.Path.{_≡_, refl}
-use mathlib.Core.Bool.{Bool, true, false}
-use mathlib.Core.List.{List, [], _∷_}
+use mathlib.Core.Bool.{false}
+use mathlib.Core.List.{[], _∷_}
 use Prim.Native.Nat.{ℕ}
 use Rattle.criteria.specs.Words.{NE}
 use Rattle.criteria.specs.Inputs.{Visit}
 use Rattle.criteria.proofs.Laws.{overall-laws}
 use Rattle.endpoints.specs.Values.{none}
-use Rattle.endpoints.specs.StudyRecords.{Baseline, StudyRecord, baseline, visit, therapy, death, disease}
+use Rattle.endpoints.specs.StudyRecords.{Baseline, baseline, visit, therapy, death, disease}
 use Rattle.endpoints.specs.Lawful.{Past}
-use Rattle.endpoints.specs.Visits.{Judged, visitsOf, judge, judged, progression}
+use Rattle.endpoints.specs.Visits.{visitsOf, judge, judged, progression}
 use Rattle.endpoints.specs.Pfs.{beforeEvent, lastEvaluable}
 
 pub missing-answer : (b : Baseline) (p : Past) (d : ℕ) (v : Visit) → b .assessed ≡ false → judge b p d v .answer ≡ NE

@@ -3,14 +3,13 @@
 use mathlib.Core.Path.{_≡_, refl, sym, ap, _∙_}
 use mathlib.Core.Bool.{Bool, true, false}
 use mathlib.Core.List.{List, [], _∷_}
-use Prim.Native.Nat.{ℕ, suc, _-_, _≤_, _<_, max}
+use Prim.Native.Nat.{ℕ, suc, _-_, _≤_}
 use native.Mathlib.Omega.{arith}
 use borrow.Author.Tests.{le-leb}
 use Rattle.laws.specs.Choice.{pick}
-use Rattle.laws.proofs.Tests.{both-true}
 use Rattle.criteria.specs.Overall.{evaluable}
-use Rattle.endpoints.specs.Values.{Day, none, on, isRecorded, _orElse_, orDay1, Pfs, EVENT, CENSORED, event, censored}
-use Rattle.endpoints.specs.StudyRecords.{Baseline, StudyRecord, baseline, visit, therapy, death, dayOf, fieldsPass}
+use Rattle.endpoints.specs.Values.{none, on, isRecorded, orDay1, Pfs, EVENT, CENSORED, event, censored}
+use Rattle.endpoints.specs.StudyRecords.{Baseline, baseline, visit, therapy, death, fieldsPass}
 use Rattle.endpoints.specs.Lawful.{Past, latestDay, deathDay, died, lawfulBehind}
 use Rattle.endpoints.specs.Visits.{Judged, judge, judged, firstPD, progression}
 use Rattle.endpoints.specs.Pfs.{beforeEvent, lastEvaluable, earlyDeath, pfs}

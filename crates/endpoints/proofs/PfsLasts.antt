@@ -1,21 +1,17 @@
 -- Reasons for which PFS lasts: each further record of a lawful list keeps it, and a reason for it. The mark is not named here.
 -- Assumes nothing.
-use mathlib.Core.Path.{_≡_, refl, sym, ap, _∙_}
-use mathlib.Core.Bool.{Bool, true, false, not}
-use mathlib.Core.List.{List, [], _∷_}
-use Prim.Native.Nat.{ℕ, _-_, _≤_, _<_, max}
+use mathlib.Core.Path.{_≡_, refl, sym, _∙_}
+use mathlib.Core.Bool.{true, false, not}
+use mathlib.Core.List.{_∷_}
+use Prim.Native.Nat.{ℕ, _-_, _<_}
 use native.Mathlib.Omega.{arith}
 use borrow.Author.Tests.{lt-leb}
-use Rattle.laws.specs.Choice.{both, either, pick}
-use Rattle.laws.proofs.Tests.{never, either-with-true}
-use Rattle.criteria.specs.Words.{Word, CR, PR, SD, PD, NE, NA, NN}
-use Rattle.criteria.specs.Inputs.{Visit}
-use Rattle.endpoints.specs.Values.{Day, none, on, isRecorded, _orElse_, exists, noDuration}
+use Rattle.laws.proofs.Tests.{never}
+use Rattle.endpoints.specs.Values.{none, on, isRecorded}
 use Rattle.endpoints.specs.StudyRecords.{Baseline, StudyRecord, baseline, visit, therapy, death, dayOf}
 use Rattle.endpoints.specs.Lawful.{Past, latestDay, deathDay, died}
-use Rattle.endpoints.specs.Visits.{Judged, treated, judge, judged, firstPD, progression, counting}
+use Rattle.endpoints.specs.Visits.{progression}
 use Rattle.endpoints.specs.Pfs.{earlyDeath, pfs}
-use Rattle.endpoints.specs.Best.{isCR, isResponse, completeBefore, confirmedCR, confirmedResponse, stable, bestOf, best, firstResponse, durationOf, duration}
 use Rattle.endpoints.proofs.Behind.{recorded-on, absent, recorded-keeps, Next, rising, lasts-by, Unchanged}
 use Rattle.endpoints.proofs.Missing.{missing-answer, missing-progression, missing-evaluable}
 

@@ -3,8 +3,7 @@
 -- Assumes nothing.
 use mathlib.Core.Path.{_≡_}
 use mathlib.Core.Bool.{Bool, true, false}
-use mathlib.Core.List.{List, [], _∷_}
-use Prim.Native.Nat.{ℕ}
+use mathlib.Core.List.{[], _∷_}
 use Rattle.dates.specs.declared.Date.{Date}
 use Rattle.dates.specs.Laws.{ymd}
 use Rattle.records.specs.declared.Status.{Status}

@@ -9,10 +9,9 @@ use Rattle.laws.specs.Choice.{both}
 use Rattle.records.specs.declared.Status.{Status}
 use Rattle.records.specs.declared.Status.the-variants as S
 use Rattle.criteria.specs.Words.{Word, CR, PR, SD, PD, NE, NA}
-use Rattle.criteria.specs.Inputs.{Visit}
 use Rattle.criteria.specs.Overall.{isPD}
 use Rattle.criteria.specs.Visits.{visitTarget}
-use Rattle.endpoints.specs.Values.{Pfs, event, censored, Duration, noDuration, lasted}
+use Rattle.endpoints.specs.Values.{Pfs, event, censored, Duration, noDuration}
 use Rattle.endpoints.specs.StudyRecords.{Baseline, StudyRecord, baseline, visit, therapy, death, disease, allPass}
 use Rattle.endpoints.specs.Lawful.{Past, lawful}
 use Rattle.endpoints.specs.Visits.{visitsOf}

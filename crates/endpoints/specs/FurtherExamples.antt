@@ -1,10 +1,10 @@
 -- Document 01: examples 7 and 11, the outcome of the printed example, and cases in which its sentences part; proved in proofs/AtTheEdges.antt.
 -- Assumes nothing.
-use mathlib.Core.Bool.{true, false}
+use mathlib.Core.Bool.{true}
 use mathlib.Core.List.{List, [], _∷_}
 use Rattle.records.specs.declared.Status.the-variants as S
 use Rattle.criteria.specs.Words.{CR, PR, SD, PD, NE}
-use Rattle.endpoints.specs.Values.{EVENT, CENSORED, event, censored, noDuration, lasted}
+use Rattle.endpoints.specs.Values.{EVENT, CENSORED, event, censored, lasted}
 use Rattle.endpoints.specs.StudyRecords.{therapy, death}
 use Rattle.endpoints.specs.Examples.{oneTarget, withNode, missing, size, unmeasured, twoSizes, is, pfsIs, bestIs, durationIs, pfsOfList, bestOfList, durationOfList, pfsSettledOfList, bestSettledOfList, durationSettledOfList, Example, after}
 

@@ -1,15 +1,16 @@
 -- Document 01, demand 3 and "Settled": a part of the outcome that no lawful run of further records changes, and what a mark claims.
 -- Assumes nothing.
-use mathlib.Core.Bool.{Bool, true}
-use mathlib.Core.List.{List, _∷_, _++_, reverse}
+use mathlib.Core.Bool.{true}
+use mathlib.Core.List.{List, [], _∷_, _++_, reverse}
 use mathlib.Core.Path.{_≡_}
 use mathlib.Core.Logic.{_↔_}
 use Rattle.endpoints.specs.Values.{Outcome}
-use Rattle.endpoints.specs.StudyRecords.{Baseline, StudyRecord, baseline, fieldsPass, allPass}
+use Rattle.endpoints.specs.StudyRecords.{Baseline, StudyRecord, baseline, visit, therapy, death, fieldsPass, allPass}
 use Rattle.endpoints.specs.Lawful.{Past, lawfulBehind, lawful}
 use Rattle.endpoints.specs.Settled.{outcome}
 
--- a part of the outcome is equal behind every lawful run of further records whose fields pass 4 and 5, the empty run among them; newest first
+-- A part of the outcome is equal behind every lawful run of further records whose fields pass 4 and 5, the empty run among them; newest first. Equal
+-- values of PFS have the same status and day, and equal durations are none both times or have the same days and status.
 abbrev pub Lasts : {A : Type 0} → (Outcome → A) → Baseline → Past → Type 0
 Lasts part b p = (run : Past) → allPass run ≡ true → lawfulBehind b (run ++ p) ≡ true → part (outcome b (run ++ p)) ≡ part (outcome b p)
 
@@ -39,3 +40,11 @@ pub record MarksExactInOrder (b : Baseline) (rs : List StudyRecord) : Type 0 whe
 
 pub record SettlingInOrder : Type 0 where
   pub exact : (b : Baseline) (rs : List StudyRecord) → fieldsPass (baseline b) ≡ true → lawful (baseline b ∷ rs) ≡ true → MarksExactInOrder b rs
+
+-- a list that opens with a baseline has exact marks
+abbrev pub MarksExactOn : List StudyRecord → Type 0
+MarksExactOn [] = ⊥
+MarksExactOn (baseline b ∷ rs) = MarksExactInOrder b rs
+MarksExactOn (visit d v ∷ rs) = ⊥
+MarksExactOn (therapy d ∷ rs) = ⊥
+MarksExactOn (death d ∷ rs) = ⊥

@@ -1,5 +1,5 @@
--- Document 01, "Dates and records": lawful lists. The records behind a baseline are a list with the newest first, here and in the definitions that
--- follow: `r ∷ p` is p with r recorded after it, so that what was recorded before a record is the list behind it.
+-- Document 01, "Dates and records": lawful lists. Here and in the definitions that follow the records behind a baseline stand with the newest first:
+-- `r ∷ p` is p with r recorded behind it, and p is what was recorded before r.
 -- Assumes nothing.
 use Prim.Native.Nat.{ℕ, max}
 use mathlib.Core.Bool.{Bool, true, false, not}

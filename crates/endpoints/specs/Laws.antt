@@ -1,10 +1,10 @@
 -- What document 01, "Dates and records", "Outcome" and "Settled", lets a reader expect of lists: stated here, proved in proofs/.
 -- Assumes nothing.
 use mathlib.Core.Path.{_≡_}
-use mathlib.Core.Bool.{Bool, true, false}
+use mathlib.Core.Bool.{true, false}
 use mathlib.Core.List.{List, _∷_}
 use mathlib.Core.Logic.{_↔_}
-use Prim.Native.Nat.{ℕ, _<_}
+use Prim.Native.Nat.{_<_}
 use Rattle.dates.specs.declared.Date.{Date}
 use Rattle.dates.specs.Calendar.{dayNumber}
 use Rattle.records.specs.declared.Record.{Record}
@@ -14,6 +14,7 @@ use Rattle.endpoints.specs.Values.{exists}
 use Rattle.endpoints.specs.StudyRecords.{Baseline, StudyRecord, dayOf, fieldsPass, onStudyDay, onStudyDays}
 use Rattle.endpoints.specs.Lawful.{Past, latestDay, lawfulBehind, lawful}
 use Rattle.endpoints.specs.Best.{isResponse, best, duration}
+use Rattle.endpoints.specs.Lasting.{MarksExactOn}
 use Rattle.endpoints.specs.Adding.{isBaseline, tooEarly, refusalBehind, refusalOfOpening, Call, accepted}
 
 pub record ListLaws : Type 0 where
@@ -31,5 +32,9 @@ pub record AddingLaws : Type 0 where
       dayNumber (dateOf (r .entry)) < dayNumber randomisation → tooEarly (latestDay p) (onStudyDay randomisation r) ≡ true
   -- a record that none of its own refusals meets passes 4 and 5 on its study day
   pub ownPassed : (randomisation : Date) (r : Record) → Five r → refusalOf r ≡ 0 → fieldsPass (onStudyDay randomisation r) ≡ true
+
+pub record CallLaws : Type 0 where
   -- from an accepted opening every list of calls leads to a lawful list
   pub acceptedLawful : (b : Record) (cs : List Call) → refusalOfOpening b ≡ 0 → lawful (onStudyDays (accepted b cs)) ≡ true
+  -- and each mark of the outcome of that list is true exactly when its part lasts
+  pub acceptedExact : (b : Record) (cs : List Call) → Five b → refusalOfOpening b ≡ 0 → MarksExactOn (onStudyDays (accepted b cs))

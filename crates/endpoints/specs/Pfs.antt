@@ -25,7 +25,7 @@ abbrev pub lastEvaluable : List Judged → Day
 lastEvaluable [] = none
 lastEvaluable (j ∷ js) = pick (evaluable (j .answer)) (on (j .day)) (lastEvaluable js)
 
--- v = 1, 91 days; 2 to 119, 98; 120 to 161, 112; from 162, 126
+-- v = 1, 91 days; 2 to 119, 98; 120 to 161, 112; from 162, 126; there is no day 0
 unfoldable pub gapLimit : ℕ → ℕ
 gapLimit v = pick (leb v 1) 91 (pick (leb v 119) 98 (pick (leb v 161) 112 126))
 
@@ -33,7 +33,7 @@ gapLimit v = pick (leb v 1) 91 (pick (leb v 119) 98 (pick (leb v 161) 112 126))
 abbrev pub twoMissed : ℕ → ℕ → Bool
 twoMissed day v = ltb (gapLimit v) (day - v)
 
--- the early-death limit, in days from day 1
+-- the early-death limit: death day − 1 is at most this
 unfoldable pub earlyDeath : ℕ
 earlyDeath = 91
 

@@ -1,5 +1,5 @@
--- Document 01, "Dates and records" and "Settled": records on their study days, which have no last one. They have the four cases of the record; a
--- therapy and a death have a day alone, since everything beside it is zero.
+-- Document 01, "Dates and records" and "Settled": records on their study days, however late, with the four cases of the record. A therapy and a death
+-- have a day alone, since everything beside it is zero.
 -- Assumes nothing.
 use Prim.Native.Nat.{ℕ}
 use mathlib.Core.Bool.{Bool, true, not}
@@ -18,8 +18,7 @@ use Rattle.records.specs.declared.Record.{Record}
 use Rattle.records.specs.Form.{dateOf}
 use Rattle.records.specs.Refusals.{mostTargets, outsideLimits, notZero}
 use Rattle.criteria.specs.declared.BaselineDisease.{BaselineDisease}
-use Rattle.criteria.specs.Inputs.{Visit}
-use Rattle.criteria.specs.Sums.{baselineSum}
+use Rattle.criteria.specs.Inputs.{Visit, diseaseOf}
 
 pub record Baseline : Type 0 where
   pub assessed : Bool
@@ -41,27 +40,27 @@ dayOf (visit d v) = d
 dayOf (therapy d) = d
 dayOf (death d) = d
 
--- what a baseline leaves for judging visits
-abbrev pub disease : Baseline → BaselineDisease
-disease b = record { assessed = b .assessed; count = b .count; nodes = b .nodes; sum = baselineSum (b .count) (b .sizes) }
-
--- five sizes and five marks that neither 4 nor 5 meets
-unfoldable pub fieldsOfPass : Entry → List Bool → List ℕ → Bool
-fieldsOfPass e marks sizes =
-    both (both (eqb (length marks) mostTargets) (eqb (length sizes) mostTargets))
-    (not (either (outsideLimits e marks sizes) (notZero e marks sizes)))
-
--- the entries that 4 and 5 judge; neither of them looks at the date, and none stands in it
+-- the entries of a record without its date, which neither the response rules nor 4 and 5 look at
 abbrev pub entryOfBaseline : Baseline → BaselineEntry
 entryOfBaseline b = record { date = ymd 0 0 0; assessed = b .assessed; nontarget = b .nontarget; count = b .count }
 
 abbrev pub entryOfVisit : Visit → VisitEntry
 entryOfVisit v = record { date = ymd 0 0 0; status = v .status; newlesion = v .newLesion }
 
+-- what a baseline leaves for judging visits
+abbrev pub disease : Baseline → BaselineDisease
+disease b = diseaseOf (entryOfBaseline b) (b .nodes) (b .sizes)
+
+-- five marks and five sizes, and neither 4 nor 5 meets
+unfoldable pub entryPasses : Entry → List Bool → List ℕ → Bool
+entryPasses e marks sizes =
+    both (both (eqb (length marks) mostTargets) (eqb (length sizes) mostTargets))
+    (not (either (outsideLimits e marks sizes) (notZero e marks sizes)))
+
 -- neither 4 nor 5 meets the fields other than the date
 abbrev pub fieldsPass : StudyRecord → Bool
-fieldsPass (baseline b) = fieldsOfPass (E.Baseline (entryOfBaseline b)) (b .nodes) (b .sizes)
-fieldsPass (visit d v) = fieldsOfPass (E.Visit (entryOfVisit v)) (v .measured) (v .sizes)
+fieldsPass (baseline b) = entryPasses (E.Baseline (entryOfBaseline b)) (b .nodes) (b .sizes)
+fieldsPass (visit d v) = entryPasses (E.Visit (entryOfVisit v)) (v .measured) (v .sizes)
 fieldsPass (therapy d) = true
 fieldsPass (death d) = true
 
@@ -69,7 +68,7 @@ abbrev pub allPass : List StudyRecord → Bool
 allPass [] = true
 allPass (r ∷ rs) = both (fieldsPass r) (allPass rs)
 
--- the study day of a date; 0, which is no study day, where it is before randomisation
+-- the study day of a date; 0, which is no study day, where the date is before randomisation or does not exist
 abbrev pub studyDay : Date → Date → ℕ
 studyDay randomisation d = studyDayOf d randomisation .day
 

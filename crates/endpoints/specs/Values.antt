@@ -31,6 +31,7 @@ abbrev pub orDay1 : Day → ℕ
 orDay1 none = 1
 orDay1 (on d) = d
 
+-- the status of PFS and of duration, by the listing's words
 pub data Ending : Type 0 where
   EVENT : Ending
   CENSORED : Ending

@@ -9,7 +9,7 @@ use Rattle.criteria.specs.Inputs.{Visit}
 use Rattle.criteria.specs.Overall.{isPD}
 use Rattle.criteria.specs.Visits.{visitOverall}
 use Rattle.endpoints.specs.Values.{Day, none, on, isRecorded, _orElse_}
-use Rattle.endpoints.specs.StudyRecords.{Baseline, StudyRecord, baseline, visit, therapy, death, disease}
+use Rattle.endpoints.specs.StudyRecords.{Baseline, baseline, visit, therapy, death, disease}
 use Rattle.endpoints.specs.Lawful.{Past}
 
 abbrev pub visitsOf : Past → List Visit

@@ -1,10 +1,11 @@
 -- The tests of code as the definitions have them, and what `both` and `either` say of their parts.
 -- Assumes nothing.
-use mathlib.Core.Path.{_≡_, refl}
-use mathlib.Core.Bool.{Bool, true, false}
+use mathlib.Core.Path.{_≡_, refl, sym}
+use mathlib.Core.Bool.{Bool, true, false, not}
 use Prim.Native.Nat.{ℕ}
 use native.Mathlib.Omega.{arith}
-use borrow.Author.Tests.{lt-ltb, le-ltb, le-leb, lt-leb, eq-eqb, ne-eqb}
+use lib.Dec.{leb, ltb}
+use borrow.Author.Tests.{lt-ltb, le-ltb, le-leb, lt-leb, eq-eqb, ne-eqb, leb-true, leb-false, ltb-true, ltb-false}
 use Rattle.laws.specs.Choice.{both, either}
 
 pub ruleset tests = (lt-ltb, le-ltb, le-leb, lt-leb, eq-eqb, ne-eqb)
@@ -31,3 +32,18 @@ either-with-false false = refl
 pub either-false : (a b : Bool) → either a b ≡ false → (a ≡ false) × (b ≡ false)
 either-false true b e = absurd (never e)
 either-false false b e = (refl, e)
+
+-- a test that fails is the converse one
+pub not-leb : (m n : ℕ) → not (leb m n) ≡ ltb n m
+not-leb m n = go (leb m n) refl
+  where
+    go : (x : Bool) → leb m n ≡ x → not x ≡ ltb n m
+    go true e = sym (le-ltb n m (leb-true m n e))
+    go false e = sym (lt-ltb n m (leb-false m n e))
+
+pub not-ltb : (m n : ℕ) → not (ltb m n) ≡ leb n m
+not-ltb m n = go (ltb m n) refl
+  where
+    go : (x : Bool) → ltb m n ≡ x → not x ≡ leb n m
+    go true e = sym (lt-leb n m (ltb-true m n e))
+    go false e = sym (le-leb n m (ltb-false m n e))

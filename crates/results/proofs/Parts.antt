@@ -4,7 +4,7 @@ use mathlib.Core.Path.{_≡_, _∙_}
 use mathlib.Core.Bool.{Bool, true, false}
 use Prim.Native.Nat.{ℕ, _+_, _-_, _≤_, _<_}
 use native.Mathlib.Omega.{arith}
-use lib.Dec.{leb, ltb}
+use lib.Dec.{ltb}
 use borrow.Author.Tests.{le-leb, lt-leb}
 use Rattle.dates.specs.declared.StudyDay.{StudyDay}
 use Rattle.endpoints.specs.declared.MaybeDay.{MaybeDay}
@@ -12,7 +12,7 @@ use Rattle.endpoints.specs.declared.MaybeDay.the-variants as M
 use Rattle.endpoints.specs.declared.EndStatus.the-variants as E
 use Rattle.endpoints.specs.declared.PfsResult.{PfsResult}
 use Rattle.endpoints.specs.declared.BestResponse.{BestResponse}
-use Rattle.endpoints.specs.Values.{none, on, orDay1, Duration, lasted, dayValue, endWord, pfsValues, bestWord, event, censored}
+use Rattle.endpoints.specs.Values.{none, on, orDay1, lasted, dayValue, endWord, pfsValues, bestWord}
 use Rattle.endpoints.specs.Pfs.{gapLimit, twoMissed, earlyDeath, eventUnlessMissed, pfsOf}
 use Rattle.endpoints.specs.Best.{isResponse, durationOf}
 

@@ -1,0 +1,111 @@
+-- The records that a list of calls accepts are a lawful list, and the marks of its outcome are exact.
+-- Assumes nothing.
+use mathlib.Core.Path.{_≡_, refl, sym, ap, _∙_}
+use mathlib.Core.Bool.{Bool, true, false}
+use mathlib.Core.List.{List, [], _∷_, _++_, map, reverse, reverse-append}
+use Prim.Native.Nat.{ℕ}
+use native.Mathlib.Omega.{arith}
+use lib.Dec.{eqb}
+use borrow.Author.Tests.{eqb-true, eqb-false}
+use Rattle.laws.specs.Choice.{pick}
+use Rattle.laws.proofs.Tests.{never}
+use Rattle.dates.specs.declared.Date.{Date}
+use Rattle.records.specs.declared.Entry.{Entry}
+use Rattle.records.specs.declared.Entry.the-variants as E
+use Rattle.records.specs.declared.Record.{Record}
+use Rattle.records.specs.Form.{dateOf, kindNumber, Five}
+use Rattle.records.specs.Refusals.{refusalOf}
+use Rattle.records.proofs.Passed.{passes}
+use Rattle.endpoints.specs.StudyRecords.{StudyRecord, baseline, visit, therapy, death, fieldsPass, entryOnStudyDay, onStudyDay, onStudyDays}
+use Rattle.endpoints.specs.Lawful.{lawfulBehind, lawful}
+use Rattle.endpoints.specs.Adding.{refusalAfter, afterOwn, refusalOfOpening, refusalOfAdding, Call, add, read, acceptedAfter, accepted}
+use Rattle.endpoints.specs.Lasting.{MarksExactOn}
+use Rattle.endpoints.proofs.InOrder.{settling-in-order}
+use Rattle.endpoints.proofs.Refusals.{one-more, own-passed}
+
+-- one record more behind a list in the order recorded
+one-more-in-order : (s : StudyRecord) (ss : List StudyRecord) (r : StudyRecord) → lawful (s ∷ ss) ≡ true → refusalAfter (s ∷ ss) r ≡ 0 →
+    lawful (s ∷ ss ++ (r ∷ [])) ≡ true
+one-more-in-order (baseline b) ss r l e = ap (lawfulBehind b) (reverse-append ss (r ∷ [])) ∙ one-more b (reverse ss) r l .0 e
+one-more-in-order (visit d v) ss r l e = absurd (never (sym l))
+one-more-in-order (therapy d) ss r l e = absurd (never (sym l))
+one-more-in-order (death d) ss r l e = absurd (never (sym l))
+
+map-behind : {A B : Type 0} (f : A → B) (xs : List A) (x : A) → map f (xs ++ (x ∷ [])) ≡ map f xs ++ (f x ∷ [])
+map-behind f [] x = refl
+map-behind f (y ∷ xs) x = ap (λ (l : List _). f y ∷ l) (map-behind f xs x)
+
+-- none of the record's own refusals meets, and none after them
+none-after-own : (r : Record) (n : ℕ) → afterOwn r n ≡ 0 → n ≡ 0
+none-after-own r n e = go (eqb (refusalOf r) 0) refl
+  where
+    go : (x : Bool) → eqb (refusalOf r) 0 ≡ x → n ≡ 0
+    go true q = rw q at e
+    go false q = absurd (eqb-false (refusalOf r) 0 q (rw q at e))
+
+one-more-accepted : (b : Record) (rs : List Record) (r : Record) → lawful (onStudyDays (b ∷ rs)) ≡ true → refusalOfAdding (b ∷ rs) r ≡ 0 →
+    lawful (onStudyDays (b ∷ rs ++ (r ∷ []))) ≡ true
+unfolding refusalOfAdding
+one-more-accepted b rs r l e =
+    let on-day = onStudyDay (dateOf (b .entry)) in
+    ap (λ (ss : List StudyRecord). lawful (on-day b ∷ ss)) (map-behind on-day rs r)
+    ∙ one-more-in-order (on-day b) (map on-day rs) (on-day r) l (none-after-own r (refusalAfter (onStudyDays (b ∷ rs)) (on-day r)) e)
+
+none-of-own : (r : Record) (n : ℕ) → afterOwn r n ≡ 0 → refusalOf r ≡ 0
+none-of-own r n e = go (eqb (refusalOf r) 0) refl
+  where
+    go : (x : Bool) → eqb (refusalOf r) 0 ≡ x → refusalOf r ≡ 0
+    go true q = eqb-true (refusalOf r) 0 q
+    go false q = rw q at e
+
+accepted-from : (b : Record) (rs : List Record) (cs : List Call) → lawful (onStudyDays (b ∷ rs)) ≡ true →
+    lawful (onStudyDays (acceptedAfter (b ∷ rs) cs)) ≡ true
+accepted-from b rs [] l = l
+accepted-from b rs (add r ∷ cs) l = go (eqb (refusalOfAdding (b ∷ rs) r) 0) refl (accepted-from b (rs ++ (r ∷ [])) cs) (accepted-from b rs cs l)
+  where
+    go : (x : Bool) → eqb (refusalOfAdding (b ∷ rs) r) 0 ≡ x →
+        (lawful (onStudyDays (b ∷ rs ++ (r ∷ []))) ≡ true → lawful (onStudyDays (acceptedAfter (b ∷ rs ++ (r ∷ [])) cs)) ≡ true) →
+        lawful (onStudyDays (acceptedAfter (b ∷ rs) cs)) ≡ true →
+        lawful (onStudyDays (acceptedAfter (pick x (b ∷ rs ++ (r ∷ [])) (b ∷ rs)) cs)) ≡ true
+    go true e more same = more (one-more-accepted b rs r l (eqb-true (refusalOfAdding (b ∷ rs) r) 0 e))
+    go false e more same = same
+accepted-from b rs (read ∷ cs) l = accepted-from b rs cs l
+
+opens : (d : Date) (e : Entry) (marks : List Bool) (sizes : List ℕ) → _≡_ {A = ℕ} (pick (eqb (kindNumber e) 1) 0 7) 0 →
+    lawful (entryOnStudyDay d e marks sizes ∷ []) ≡ true
+opens d (E.Baseline b) marks sizes q = refl
+opens d (E.Visit v) marks sizes q = absurd (let w : ⊥ = omega arith in w)
+opens d (E.Therapy t) marks sizes q = absurd (let w : ⊥ = omega arith in w)
+opens d (E.Death t) marks sizes q = absurd (let w : ⊥ = omega arith in w)
+
+pub accepted-lawful : (b : Record) (cs : List Call) → refusalOfOpening b ≡ 0 → lawful (onStudyDays (accepted b cs)) ≡ true
+unfolding refusalOfOpening
+accepted-lawful b cs e =
+    accepted-from b [] cs
+    (opens (dateOf (b .entry)) (b .entry) (b .marks) (b .sizes) (none-after-own b (pick (eqb (kindNumber (b .entry)) 1) 0 7) e))
+
+-- a lawful list whose first record passes 4 and 5
+exact-on : (s : StudyRecord) (ss : List StudyRecord) → fieldsPass s ≡ true → lawful (s ∷ ss) ≡ true → MarksExactOn (s ∷ ss)
+exact-on (baseline b) ss passed l = settling-in-order .exact b ss passed l
+exact-on (visit d v) ss passed l = never (sym l)
+exact-on (therapy d) ss passed l = never (sym l)
+exact-on (death d) ss passed l = never (sym l)
+
+-- the opening record stays the first
+opening-first : (b : Record) (rs : List Record) (cs : List Call) → (ss : List Record) × (acceptedAfter (b ∷ rs) cs ≡ b ∷ ss)
+opening-first b rs [] = (rs, refl)
+opening-first b rs (add r ∷ cs) = go (eqb (refusalOfAdding (b ∷ rs) r) 0) (opening-first b (rs ++ (r ∷ [])) cs) (opening-first b rs cs)
+  where
+    go : (x : Bool) → (ss : List Record) × (acceptedAfter (b ∷ rs ++ (r ∷ [])) cs ≡ b ∷ ss) → (ss : List Record) × (acceptedAfter (b ∷ rs) cs ≡ b ∷ ss) →
+        (ss : List Record) × (acceptedAfter (pick x (b ∷ rs ++ (r ∷ [])) (b ∷ rs)) cs ≡ b ∷ ss)
+    go true more same = more
+    go false more same = same
+opening-first b rs (read ∷ cs) = opening-first b rs cs
+
+pub accepted-exact : (b : Record) (cs : List Call) → Five b → refusalOfOpening b ≡ 0 → MarksExactOn (onStudyDays (accepted b cs))
+unfolding refusalOfOpening
+accepted-exact b cs five e =
+    let first = opening-first b [] cs in
+    let on-day = onStudyDay (dateOf (b .entry)) in
+    let passed = own-passed (dateOf (b .entry)) b five (none-of-own b (pick (eqb (kindNumber (b .entry)) 1) 0 7) e) in
+    rw (first .1) (exact-on (on-day b) (map on-day (first .0)) passed (rw (first .1) at (accepted-lawful b cs e)))
