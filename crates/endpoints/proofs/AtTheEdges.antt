@@ -21,7 +21,7 @@ use Rattle.endpoints.specs.AddingExamples.{Unlawful, FirstRefusals}
 
 pub examples-hold : Hold starred × Hold further
 unfolding starred further entryPasses wrongSize largeMeasured setBeyond sizedUnmeasured withoutDisease outsideLimits notZero fits measuredSum baselineSum allMeasured allGone grown shrunk targetAnswer nadirOf overallAnswer judge gapLimit earlyDeath pfs best duration settledFrom pfsSettledBy bestSettledBy durationSettledBy pfsSettled bestSettled durationSettled
-examples-hold = (record { lawfulLists = refl; answers = refl }, record { lawfulLists = refl; answers = refl })
+examples-hold = (record { lawfulLists = refl; visits = refl; answers = refl }, record { lawfulLists = refl; visits = refl; answers = refl })
 
 pub unlawful : Unlawful
 unfolding fits

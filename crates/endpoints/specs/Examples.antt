@@ -14,7 +14,7 @@ use Rattle.criteria.specs.Visits.{visitTarget}
 use Rattle.endpoints.specs.Values.{Pfs, event, censored, Duration, noDuration}
 use Rattle.endpoints.specs.StudyRecords.{Baseline, StudyRecord, baseline, visit, therapy, death, disease, allPass}
 use Rattle.endpoints.specs.Lawful.{Past, lawful}
-use Rattle.endpoints.specs.Visits.{visitsOf}
+use Rattle.endpoints.specs.Visits.{visitsOf, Judged, judged}
 use Rattle.endpoints.specs.Best.{isCR}
 use Rattle.endpoints.specs.Settled.{outcome}
 
@@ -128,63 +128,63 @@ bestSettledOfList b p = is (outcome b p .bestSettled)
 abbrev pub durationSettledOfList : Baseline → Past → Said
 durationSettledOfList b p = is (outcome b p .durationSettled)
 
--- a baseline, the records behind it in the order recorded, what is asked, and the paper's answer
+-- a baseline, the records behind it and the overall answers of its visits in the order recorded, what is asked, and the paper's answer
 pub record Example : Type 0 where
   pub opening : Baseline
   pub behind : List StudyRecord
+  pub visits : List Word
   pub asked : Baseline → Past → Said
   pub paper : Said
 
-abbrev pub after : Baseline → List StudyRecord → (Baseline → Past → Said) → Said → Example
-after b rs f a = record { opening = b; behind = rs; asked = f; paper = a }
+abbrev pub after : Baseline → List StudyRecord → List Word → (Baseline → Past → Said) → Said → Example
+after b rs ws f a = record { opening = b; behind = rs; visits = ws; asked = f; paper = a }
+
+-- 15: PR 43, therapy 50, PR 85, PD 127
+abbrev pub afterTherapy : (Baseline → Past → Said) → Said → Example
+afterTherapy = after (oneTarget 100) (size 43 60 ∷ therapy 50 ∷ size 85 60 ∷ size 127 200 ∷ []) (PR ∷ PR ∷ PD ∷ [])
 
 unfoldable pub starred : List Example
 starred =
     -- 1: baseline sum 100, sum 70 PR, 71 SD
-    after (oneTarget 100) (size 43 70 ∷ []) targetOf (target PR)
-    ∷ after (oneTarget 100) (size 43 71 ∷ []) targetOf (target SD)
+    after (oneTarget 100) (size 43 70 ∷ []) (PR ∷ []) targetOf (target PR)
+    ∷ after (oneTarget 100) (size 43 71 ∷ []) (SD ∷ []) targetOf (target SD)
     -- 2: nadir 20, 24 no PD, 25 PD
-    ∷ after (oneTarget 100) (size 43 20 ∷ size 85 24 ∷ []) targetPD (is false)
-    ∷ after (oneTarget 100) (size 43 20 ∷ size 85 25 ∷ []) targetPD (is true)
+    ∷ after (oneTarget 100) (size 43 20 ∷ size 85 24 ∷ []) (PR ∷ PR ∷ []) targetPD (is false)
+    ∷ after (oneTarget 100) (size 43 20 ∷ size 85 25 ∷ []) (PR ∷ PD ∷ []) targetPD (is true)
     -- 3: nadir 50, 59 no PD, 60 PD
-    ∷ after (oneTarget 100) (size 43 50 ∷ size 85 59 ∷ []) targetPD (is false)
-    ∷ after (oneTarget 100) (size 43 50 ∷ size 85 60 ∷ []) targetPD (is true)
+    ∷ after (oneTarget 100) (size 43 50 ∷ size 85 59 ∷ []) (PR ∷ PR ∷ []) targetPD (is false)
+    ∷ after (oneTarget 100) (size 43 50 ∷ size 85 60 ∷ []) (PR ∷ PD ∷ []) targetPD (is true)
     -- 4: node 9, rest 0, CR; node 10 not
-    ∷ after withNode (twoSizes 43 0 9 S.CR ∷ []) targetCR (is true)
-    ∷ after withNode (twoSizes 43 0 10 S.CR ∷ []) targetCR (is false)
+    ∷ after withNode (twoSizes 43 0 9 S.CR ∷ []) (CR ∷ []) targetCR (is true)
+    ∷ after withNode (twoSizes 43 0 10 S.CR ∷ []) (PR ∷ []) targetCR (is false)
     -- 5: SD 119, PD 217 event, PD 218 censored 119
-    ∷ after (oneTarget 100) (size 119 90 ∷ size 217 200 ∷ []) pfsOfList (pfsIs (event 217))
-    ∷ after (oneTarget 100) (size 119 90 ∷ size 218 200 ∷ []) pfsOfList (pfsIs (censored 119))
+    ∷ after (oneTarget 100) (size 119 90 ∷ size 217 200 ∷ []) (SD ∷ PD ∷ []) pfsOfList (pfsIs (event 217))
+    ∷ after (oneTarget 100) (size 119 90 ∷ size 218 200 ∷ []) (SD ∷ PD ∷ []) pfsOfList (pfsIs (censored 119))
     -- 6: SD 120, PD 232 event, 233 censored 120
-    ∷ after (oneTarget 100) (size 120 90 ∷ size 232 200 ∷ []) pfsOfList (pfsIs (event 232))
-    ∷ after (oneTarget 100) (size 120 90 ∷ size 233 200 ∷ []) pfsOfList (pfsIs (censored 120))
+    ∷ after (oneTarget 100) (size 120 90 ∷ size 232 200 ∷ []) (SD ∷ PD ∷ []) pfsOfList (pfsIs (event 232))
+    ∷ after (oneTarget 100) (size 120 90 ∷ size 233 200 ∷ []) (SD ∷ PD ∷ []) pfsOfList (pfsIs (censored 120))
     -- 8: no visits, death day 92 event, 93 censored 1
-    ∷ after (oneTarget 100) (death 92 ∷ []) pfsOfList (pfsIs (event 92))
-    ∷ after (oneTarget 100) (death 93 ∷ []) pfsOfList (pfsIs (censored 1))
+    ∷ after (oneTarget 100) (death 92 ∷ []) [] pfsOfList (pfsIs (event 92))
+    ∷ after (oneTarget 100) (death 93 ∷ []) [] pfsOfList (pfsIs (censored 1))
     -- 9: NE day 43, PD 141 event, 142 censored 1
-    ∷ after (oneTarget 100) (unmeasured 43 ∷ size 141 200 ∷ []) pfsOfList (pfsIs (event 141))
-    ∷ after (oneTarget 100) (unmeasured 43 ∷ size 142 200 ∷ []) pfsOfList (pfsIs (censored 1))
+    ∷ after (oneTarget 100) (unmeasured 43 ∷ size 141 200 ∷ []) (NE ∷ PD ∷ []) pfsOfList (pfsIs (event 141))
+    ∷ after (oneTarget 100) (unmeasured 43 ∷ size 142 200 ∷ []) (NE ∷ PD ∷ []) pfsOfList (pfsIs (censored 1))
     -- 10: CR 43, CR 70 best SD, CR 71 CR
-    ∷ after (oneTarget 100) (size 43 0 ∷ size 70 0 ∷ []) bestOfList (bestIs SD)
-    ∷ after (oneTarget 100) (size 43 0 ∷ size 71 0 ∷ []) bestOfList (bestIs CR)
+    ∷ after (oneTarget 100) (size 43 0 ∷ size 70 0 ∷ []) (CR ∷ CR ∷ []) bestOfList (bestIs SD)
+    ∷ after (oneTarget 100) (size 43 0 ∷ size 71 0 ∷ []) (CR ∷ CR ∷ []) bestOfList (bestIs CR)
     -- 12: baseline missing, therapy day 92, PFS open; 93 settled
-    ∷ after missing (therapy 92 ∷ []) pfsSettledOfList (is false)
-    ∷ after missing (therapy 93 ∷ []) pfsSettledOfList (is true)
+    ∷ after missing (therapy 92 ∷ []) [] pfsSettledOfList (is false)
+    ∷ after missing (therapy 93 ∷ []) [] pfsSettledOfList (is true)
     -- 13: CR 43, PR 85 (target CR, non-target NE), CR 127, best PR
-    ∷ after withNode (twoSizes 43 0 9 S.CR ∷ twoSizes 85 0 9 S.NE ∷ twoSizes 127 0 9 S.CR ∷ []) bestOfList (bestIs PR)
-    -- 15: PR 43, therapy 50, PR 85, PD 127, PFS event 127, best SD, no duration
-    ∷ after (oneTarget 100) (size 43 60 ∷ therapy 50 ∷ size 85 60 ∷ size 127 200 ∷ []) pfsOfList (pfsIs (event 127))
-    ∷ after (oneTarget 100) (size 43 60 ∷ therapy 50 ∷ size 85 60 ∷ size 127 200 ∷ []) bestOfList (bestIs SD)
-    ∷ after (oneTarget 100) (size 43 60 ∷ therapy 50 ∷ size 85 60 ∷ size 127 200 ∷ []) durationOfList (durationIs noDuration)
+    ∷ after withNode (twoSizes 43 0 9 S.CR ∷ twoSizes 85 0 9 S.NE ∷ []) (CR ∷ PR ∷ []) targetCR (is true)
+    ∷ after withNode (twoSizes 43 0 9 S.CR ∷ twoSizes 85 0 9 S.NE ∷ twoSizes 127 0 9 S.CR ∷ []) (CR ∷ PR ∷ CR ∷ []) bestOfList (bestIs PR)
+    -- 15: PFS event 127, best SD, no duration
+    ∷ afterTherapy pfsOfList (pfsIs (event 127))
+    ∷ afterTherapy bestOfList (bestIs SD)
+    ∷ afterTherapy durationOfList (durationIs noDuration)
     ∷ []
 
-abbrev pub answered : Example → Said
-answered e = e .asked (e .opening) (reverse (e .behind))
-
-abbrev pub paperOf : Example → Said
-paperOf e = e .paper
-
--- the list is lawful, and neither 4 nor 5 meets its records
+-- every list is lawful and neither 4 nor 5 meets its records; its visits have these answers; and what is asked has the paper's answer
 abbrev pub isLawful : Example → Bool
 isLawful e = both (lawful (baseline (e .opening) ∷ e .behind)) (allPass (baseline (e .opening) ∷ e .behind))
 
@@ -192,7 +192,13 @@ abbrev pub allLawful : List Example → Bool
 allLawful [] = true
 allLawful (e ∷ es) = both (isLawful e) (allLawful es)
 
--- every list is lawful, and every answer is the paper's
+abbrev pub overallAnswers : Example → List Word
+overallAnswers e = map (λ (j : Judged). j .answer) (reverse (judged (e .opening) (reverse (e .behind))))
+
+abbrev pub answered : Example → Said
+answered e = e .asked (e .opening) (reverse (e .behind))
+
 pub record Hold (es : List Example) : Type 0 where
   pub lawfulLists : allLawful es ≡ true
-  pub answers : map answered es ≡ map paperOf es
+  pub visits : map overallAnswers es ≡ map (λ (e : Example). e .visits) es
+  pub answers : map answered es ≡ map (λ (e : Example). e .paper) es

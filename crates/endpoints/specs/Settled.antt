@@ -22,8 +22,8 @@ pfsSettledBy assessed progressed dead latest = pick assessed (either progressed 
 
 -- progression, therapy, death, baseline missing, or best is CR
 unfoldable pub bestSettledBy : Bool → Bool → Bool → Bool → Word → Bool
-bestSettledBy progressed therapied dead assessed best =
-    either progressed (either therapied (either dead (either (not assessed) (isCR best))))
+bestSettledBy progressed treated dead assessed best =
+    either progressed (either treated (either dead (either (not assessed) (isCR best))))
 
 -- where it exists, PFS is settled; where not, best is settled
 unfoldable pub durationSettledBy : Duration → Bool → Bool → Bool
