@@ -17,11 +17,11 @@ use Rattle.endpoints.specs.Settled.{settledFrom, pfsSettledBy, bestSettl
 use Rattle.endpoints.specs.Adding.{refusalBehind, refusalOfOpening, refusalOfAdding}
 use Rattle.endpoints.specs.Examples.{starred, Hold}
 use Rattle.endpoints.specs.FurtherExamples.{further}
-use Rattle.endpoints.specs.AddingExamples.{Unlawful, FirstRefusals}
+use Rattle.endpoints.specs.AddingExamples.{Unlawful, OnStudyDays, FirstRefusals}
 
 pub examples-hold : Hold starred × Hold further
 unfolding starred further entryPasses wrongSize largeMeasured setBeyond sizedUnmeasured withoutDisease outsideLimits notZero fits measuredSum baselineSum allMeasured allGone grown shrunk targetAnswer nadirOf overallAnswer judge gapLimit earlyDeath pfs best duration settledFrom pfsSettledBy bestSettledBy durationSettledBy pfsSettled bestSettled durationSettled
-examples-hold = (record { lawfulLists = refl; visits = refl; answers = refl }, record { lawfulLists = refl; visits = refl; answers = refl })
+examples-hold = (record { lists = refl; visits = refl; answers = refl }, record { lists = refl; visits = refl; answers = refl })
 
 pub unlawful : Unlawful
 unfolding fits
@@ -31,11 +31,19 @@ unlawful =
       secondBaseline = refl;
       afterDeath = refl;
       earlyTherapy = refl;
+      earlyDeath = refl;
       visitOnLatest = refl;
       visitOnDay1 = refl;
       beyondCount = refl;
-      statusOfNone = refl;
-      noStatus = refl;
+      statusWithoutLesions = refl;
+      lesionsWithoutStatus = refl;
+    }
+
+pub on-study-days : OnStudyDays
+unfolding dateExists daysInMonth leapYear daysOfYears daysOfMonths dayNumber studyDayOf
+on-study-days =
+    record {
+      eachKind = refl;
     }
 
 pub first-refusals : FirstRefusals
@@ -43,9 +51,17 @@ unfolding refusalOfOpening refusalOfAdding refusalBehind refusalOfRead dateExist
 first-refusals =
     record {
       opens = refl;
+      opensMissing = refl;
+      opensWithoutDate = refl;
+      opensWithLargeVisit = refl;
+      opensWithoutDisease = refl;
+      opensMissingWithCount = refl;
       opensWithVisit = refl;
-      secondBaseline = refl;
+      opensWithTherapy = refl;
       withoutDate = refl;
+      largeSize = refl;
+      sizeUnmeasured = refl;
+      secondBaseline = refl;
       afterDeath = refl;
       dayBefore = refl;
       therapyOnDay1 = refl;

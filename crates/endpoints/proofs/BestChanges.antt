@@ -10,10 +10,10 @@ use Rattle.laws.specs.Choice.{both, either, pick}
 use Rattle.laws.proofs.Tests.{never}
 use Rattle.criteria.specs.Words.{Word, CR, PR, SD, PD, NE, NA, NN}
 use Rattle.criteria.specs.Inputs.{Visit}
-use Rattle.endpoints.specs.Values.{Day, none, on, isRecorded, _orElse_, orDay1, Pfs, Ending, Duration, noDuration, lasted, exists}
+use Rattle.endpoints.specs.Values.{Day, none, on, isRecorded, _orElse_, orDay1, Pfs, PfsWord, Duration, noDuration, forDays, exists}
 use Rattle.endpoints.specs.StudyRecords.{Baseline, baseline, visit, therapy, death, fieldsPass}
 use Rattle.endpoints.specs.Lawful.{Past, latestDay, died, lawfulBehind}
-use Rattle.endpoints.specs.Visits.{Judged, treated, judge, firstPD, progression, counting}
+use Rattle.endpoints.specs.Visits.{Judged, therapyRecorded, judge, firstPD, progression, counting}
 use Rattle.endpoints.specs.Pfs.{pfs}
 use Rattle.endpoints.specs.Best.{isCR, isResponse, confirmDays, completeBefore, confirmedCR, responseBefore, confirmedResponse, stable, bestOf, best, firstResponse, durationOf, duration}
 use Rattle.endpoints.proofs.Behind.{recorded-on, absent, from-day-1, Unchanged}
@@ -69,7 +69,7 @@ pub duration-exists : (b : Baseline) (p : Past) → exists (duration b p) ≡ is
 unfolding duration
 duration-exists b p = go (isResponse (best b p)) refl (firstResponse (counting b p)) refl
   where
-    there : (x : Bool) (s : Ending) (n : ℕ) → exists (pick x (lasted s n) noDuration) ≡ x
+    there : (x : Bool) (s : PfsWord) (n : ℕ) → exists (pick x (forDays s n) noDuration) ≡ x
     there true s n = refl
     there false s n = refl
 
@@ -91,7 +91,7 @@ module _ (b : Baseline) (p : Past) (alive : died p ≡ false) (passes : fieldsPa
   two-more-lawful =
       complete-lawful b (oneMore b p alive passes lawfully) confirmedOn (one-more-lawful b p alive passes lawfully) alive (omega (arith, from-day-1 p))
 
-  two-more-CR : b .assessed ≡ true → treated p ≡ false → progression b p ≡ none → best b twoMore ≡ CR
+  two-more-CR : b .assessed ≡ true → therapyRecorded p ≡ false → progression b p ≡ none → best b twoMore ≡ CR
   two-more-CR assessed untreated none-yet =
       confirmed-best b twoMore
       (rw (
@@ -108,11 +108,11 @@ module _ (b : Baseline) (p : Past) (alive : died p ≡ false) (passes : fieldsPa
       lasts (visit confirmedOn (completeVisit b) ∷ visit (suc (latestDay p)) (completeVisit b) ∷ [])
       (rw (complete-passes b confirmedOn)) two-more-lawful
 
-  pub best-changes : b .assessed ≡ true → treated p ≡ false → isRecorded (progression b p) ≡ false → isCR (best b p) ≡ false → Unchanged best b p → ⊥
+  pub best-changes : b .assessed ≡ true → therapyRecorded p ≡ false → isRecorded (progression b p) ≡ false → isCR (best b p) ≡ false → Unchanged best b p → ⊥
   best-changes assessed untreated e short lasts =
       never (sym (ap isCR (two-more-CR assessed untreated (absent (progression b p) e))) ∙ ap isCR (two-more-same best lasts) ∙ short)
 
-  pub duration-begins : b .assessed ≡ true → treated p ≡ false → isRecorded (progression b p) ≡ false → exists (duration b p) ≡ false →
+  pub duration-begins : b .assessed ≡ true → therapyRecorded p ≡ false → isRecorded (progression b p) ≡ false → exists (duration b p) ≡ false →
       Unchanged duration b p → ⊥
   duration-begins assessed untreated e short lasts =
       let there = duration-exists b twoMore ∙ ap isResponse (two-more-CR assessed untreated (absent (progression b p) e)) in
@@ -123,7 +123,7 @@ counting-until : (b : Baseline) (d : ℕ) (p : Past) → latestDay p ≤ d → U
 unfolding judge
 counting-until b d [] h = tt
 counting-until b d (baseline x ∷ p) h = counting-until b d p (omega arith)
-counting-until b d (visit t v ∷ p) h = go (either (treated p) (isRecorded (progression b p))) (counting-until b d p (omega arith))
+counting-until b d (visit t v ∷ p) h = go (either (therapyRecorded p) (isRecorded (progression b p))) (counting-until b d p (omega arith))
   where
     go : (x : Bool) → Until d (counting b p) → Until d (pick x (counting b p) (judge b p t v ∷ counting b p))
     go true u = u
@@ -142,7 +142,7 @@ first-until d (j ∷ c) one u = go (firstResponse c) (isResponse (j .answer)) (f
 
 abbrev daysOf : Duration → ℕ
 daysOf noDuration = 0
-daysOf (lasted s n) = n
+daysOf (forDays s n) = n
 
 -- the days of a duration that exists, from the first response on
 days-from : (b : Baseline) (p : Past) (first : ℕ) → firstResponse (counting b p) ≡ on first → exists (duration b p) ≡ true →
@@ -152,7 +152,7 @@ days-from b p first q e = rw (q, sym (duration-exists b p) ∙ e)
 
 first-keeps : (b : Baseline) (p : Past) (d first : ℕ) (v : Visit) → firstResponse (counting b p) ≡ on first →
     firstResponse (counting b (visit d v ∷ p)) ≡ on first
-first-keeps b p d first v q = go (either (treated p) (isRecorded (progression b p))) (judge b p d v)
+first-keeps b p d first v q = go (either (therapyRecorded p) (isRecorded (progression b p))) (judge b p d v)
   where
     go : (x : Bool) (j : Judged) → firstResponse (pick x (counting b p) (j ∷ counting b p)) ≡ on first
     go true j = q

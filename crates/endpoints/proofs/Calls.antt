@@ -1,6 +1,7 @@
 -- The records that a list of calls accepts are a lawful list, and the marks of its outcome are exact.
 -- Assumes nothing.
-use mathlib.Core.Path.{_≡_, refl, sym, ap, _∙_}
+use mathlib.Core.Logic.{_↔_}
+use mathlib.Core.Path.{_≡_, refl, sym, ap}
 use mathlib.Core.Bool.{Bool, true, false}
 use mathlib.Core.List.{List, [], _∷_, _++_, map, reverse, reverse-append}
 use Prim.Native.Nat.{ℕ}
@@ -17,46 +18,40 @@ use Rattle.records.specs.Form.{dateOf, kindNumber, Five}
 use Rattle.records.specs.Refusals.{refusalOf}
 use Rattle.records.proofs.Passed.{passes}
 use Rattle.endpoints.specs.StudyRecords.{StudyRecord, baseline, visit, therapy, death, fieldsPass, entryOnStudyDay, onStudyDay, onStudyDays}
-use Rattle.endpoints.specs.Lawful.{lawfulBehind, lawful}
+use Rattle.endpoints.specs.Lawful.{lawful}
 use Rattle.endpoints.specs.Adding.{refusalAfter, afterOwn, refusalOfOpening, refusalOfAdding, Call, add, read, acceptedAfter, accepted}
 use Rattle.endpoints.specs.Lasting.{MarksExactOn}
-use Rattle.endpoints.proofs.InOrder.{settling-in-order}
+use Rattle.endpoints.proofs.InOrder.{every-mark-exact-in-order}
 use Rattle.endpoints.proofs.Refusals.{one-more, own-passed}
 
 -- one record more behind a list in the order recorded
-one-more-in-order : (s : StudyRecord) (ss : List StudyRecord) (r : StudyRecord) → lawful (s ∷ ss) ≡ true → refusalAfter (s ∷ ss) r ≡ 0 →
-    lawful (s ∷ ss ++ (r ∷ [])) ≡ true
-one-more-in-order (baseline b) ss r l e = ap (lawfulBehind b) (reverse-append ss (r ∷ [])) ∙ one-more b (reverse ss) r l .0 e
-one-more-in-order (visit d v) ss r l e = absurd (never (sym l))
-one-more-in-order (therapy d) ss r l e = absurd (never (sym l))
-one-more-in-order (death d) ss r l e = absurd (never (sym l))
+one-more-in-order : (s : StudyRecord) (ss : List StudyRecord) (r : StudyRecord) → lawful (s ∷ ss) ≡ true →
+    (refusalAfter (s ∷ ss) r ≡ 0) ↔ (lawful (s ∷ ss ++ (r ∷ [])) ≡ true)
+one-more-in-order (baseline b) ss r l = rw (reverse-append ss (r ∷ [])) (one-more b (reverse ss) r l)
+one-more-in-order (visit d v) ss r l = absurd (never (sym l))
+one-more-in-order (therapy d) ss r l = absurd (never (sym l))
+one-more-in-order (death d) ss r l = absurd (never (sym l))
 
 map-behind : {A B : Type 0} (f : A → B) (xs : List A) (x : A) → map f (xs ++ (x ∷ [])) ≡ map f xs ++ (f x ∷ [])
 map-behind f [] x = refl
 map-behind f (y ∷ xs) x = ap (λ (l : List _). f y ∷ l) (map-behind f xs x)
 
--- none of the record's own refusals meets, and none after them
-none-after-own : (r : Record) (n : ℕ) → afterOwn r n ≡ 0 → n ≡ 0
-none-after-own r n e = go (eqb (refusalOf r) 0) refl
+-- no refusal: none of the record's own, and none after them
+none-of-both : (r : Record) (n : ℕ) → (afterOwn r n ≡ 0) ↔ ((refusalOf r ≡ 0) × (n ≡ 0))
+none-of-both r n = go (eqb (refusalOf r) 0) refl
   where
-    go : (x : Bool) → eqb (refusalOf r) 0 ≡ x → n ≡ 0
-    go true q = rw q at e
-    go false q = absurd (eqb-false (refusalOf r) 0 q (rw q at e))
+    go : (x : Bool) → eqb (refusalOf r) 0 ≡ x → (afterOwn r n ≡ 0) ↔ ((refusalOf r ≡ 0) × (n ≡ 0))
+    go true q = rw q (λ e. (eqb-true (refusalOf r) 0 q, e), λ e. e .1)
+    go false q = rw q (λ e. absurd (eqb-false (refusalOf r) 0 q e), λ e. e .0)
 
-one-more-accepted : (b : Record) (rs : List Record) (r : Record) → lawful (onStudyDays (b ∷ rs)) ≡ true → refusalOfAdding (b ∷ rs) r ≡ 0 →
-    lawful (onStudyDays (b ∷ rs ++ (r ∷ []))) ≡ true
+one-more-accepted : (b : Record) (rs : List Record) (r : Record) → lawful (onStudyDays (b ∷ rs)) ≡ true →
+    (refusalOfAdding (b ∷ rs) r ≡ 0) ↔ ((refusalOf r ≡ 0) × (lawful (onStudyDays (b ∷ rs ++ (r ∷ []))) ≡ true))
 unfolding refusalOfAdding
-one-more-accepted b rs r l e =
+one-more-accepted b rs r l =
     let on-day = onStudyDay (dateOf (b .entry)) in
-    ap (λ (ss : List StudyRecord). lawful (on-day b ∷ ss)) (map-behind on-day rs r)
-    ∙ one-more-in-order (on-day b) (map on-day rs) (on-day r) l (none-after-own r (refusalAfter (onStudyDays (b ∷ rs)) (on-day r)) e)
-
-none-of-own : (r : Record) (n : ℕ) → afterOwn r n ≡ 0 → refusalOf r ≡ 0
-none-of-own r n e = go (eqb (refusalOf r) 0) refl
-  where
-    go : (x : Bool) → eqb (refusalOf r) 0 ≡ x → refusalOf r ≡ 0
-    go true q = eqb-true (refusalOf r) 0 q
-    go false q = rw q at e
+    let own = none-of-both r (refusalAfter (onStudyDays (b ∷ rs)) (on-day r)) in
+    let more = one-more-in-order (on-day b) (map on-day rs) (on-day r) l in
+    rw (map-behind on-day rs r) (λ e. (own .0 e .0, more .0 (own .0 e .1)), λ e. own .1 (e .0, more .1 (e .1)))
 
 accepted-from : (b : Record) (rs : List Record) (cs : List Call) → lawful (onStudyDays (b ∷ rs)) ≡ true →
     lawful (onStudyDays (acceptedAfter (b ∷ rs) cs)) ≡ true
@@ -67,7 +62,7 @@ accepted-from b rs (add r ∷ cs) l = go (eqb (refusalOfAdding (b ∷ rs) r) 0) 
         (lawful (onStudyDays (b ∷ rs ++ (r ∷ []))) ≡ true → lawful (onStudyDays (acceptedAfter (b ∷ rs ++ (r ∷ [])) cs)) ≡ true) →
         lawful (onStudyDays (acceptedAfter (b ∷ rs) cs)) ≡ true →
         lawful (onStudyDays (acceptedAfter (pick x (b ∷ rs ++ (r ∷ [])) (b ∷ rs)) cs)) ≡ true
-    go true e more same = more (one-more-accepted b rs r l (eqb-true (refusalOfAdding (b ∷ rs) r) 0 e))
+    go true e more same = more (one-more-accepted b rs r l .0 (eqb-true (refusalOfAdding (b ∷ rs) r) 0 e) .1)
     go false e more same = same
 accepted-from b rs (read ∷ cs) l = accepted-from b rs cs l
 
@@ -82,11 +77,11 @@ pub accepted-lawful : (b : Record) (cs : List Call) → refusalOfOpening b ≡ 0
 unfolding refusalOfOpening
 accepted-lawful b cs e =
     accepted-from b [] cs
-    (opens (dateOf (b .entry)) (b .entry) (b .marks) (b .sizes) (none-after-own b (pick (eqb (kindNumber (b .entry)) 1) 0 7) e))
+    (opens (dateOf (b .entry)) (b .entry) (b .marks) (b .sizes) (none-of-both b (pick (eqb (kindNumber (b .entry)) 1) 0 7) .0 e .1))
 
 -- a lawful list whose first record passes 4 and 5
 exact-on : (s : StudyRecord) (ss : List StudyRecord) → fieldsPass s ≡ true → lawful (s ∷ ss) ≡ true → MarksExactOn (s ∷ ss)
-exact-on (baseline b) ss passed l = settling-in-order .exact b ss passed l
+exact-on (baseline b) ss passed l = every-mark-exact-in-order .exact b ss passed l
 exact-on (visit d v) ss passed l = never (sym l)
 exact-on (therapy d) ss passed l = never (sym l)
 exact-on (death d) ss passed l = never (sym l)
@@ -107,5 +102,11 @@ unfolding refusalOfOpening
 accepted-exact b cs five e =
     let first = opening-first b [] cs in
     let on-day = onStudyDay (dateOf (b .entry)) in
-    let passed = own-passed (dateOf (b .entry)) b five (none-of-own b (pick (eqb (kindNumber (b .entry)) 1) 0 7) e) in
+    let passed = own-passed (dateOf (b .entry)) b five (none-of-both b (pick (eqb (kindNumber (b .entry)) 1) 0 7) .0 e .0) in
     rw (first .1) (exact-on (on-day b) (map on-day (first .0)) passed (rw (first .1) at (accepted-lawful b cs e)))
+
+pub added-exactly : (b : Record) (cs : List Call) (r : Record) → refusalOfOpening b ≡ 0 →
+    (refusalOfAdding (accepted b cs) r ≡ 0) ↔ ((refusalOf r ≡ 0) × (lawful (onStudyDays (accepted b cs ++ (r ∷ []))) ≡ true))
+added-exactly b cs r e =
+    let first = opening-first b [] cs in
+    rw (first .1) (one-more-accepted b (first .0) r (rw (first .1) at (accepted-lawful b cs e)))

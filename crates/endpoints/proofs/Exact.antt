@@ -11,11 +11,11 @@ use Rattle.laws.proofs.Tests.{never, either-with-true}
 use Rattle.endpoints.specs.Values.{isRecorded, exists}
 use Rattle.endpoints.specs.StudyRecords.{Baseline, baseline, fieldsPass}
 use Rattle.endpoints.specs.Lawful.{Past, latestDay, died, lawfulBehind}
-use Rattle.endpoints.specs.Visits.{treated, progression}
+use Rattle.endpoints.specs.Visits.{therapyRecorded, progression}
 use Rattle.endpoints.specs.Pfs.{earlyDeath, pfs}
 use Rattle.endpoints.specs.Best.{isCR, isResponse, best, duration}
 use Rattle.endpoints.specs.Settled.{settledFrom, pfsSettledBy, bestSettledBy, durationSettledBy, pfsSettled, bestSettled, durationSettled}
-use Rattle.endpoints.specs.Lasting.{Settling}
+use Rattle.endpoints.specs.Lasting.{EveryMarkExact}
 use Rattle.endpoints.proofs.Behind.{Unchanged}
 use Rattle.endpoints.proofs.PfsLasts.{PfsOver, progressed, dead, late, pfs-lasts}
 use Rattle.endpoints.proofs.BestLasts.{closed, afterDeath, missing, BestOver, counted, complete, confirmed-best, best-lasts, ended, without, duration-lasts, missing-no-response}
@@ -56,19 +56,19 @@ module _ (b : Baseline) (p : Past) {A : Type 0} where
 
   -- best response's mark likewise
   best-mark : (BestOver b p → A) →
-      (died p ≡ false → b .assessed ≡ true → treated p ≡ false → isRecorded (progression b p) ≡ false → isCR (best b p) ≡ false → A → ⊥) →
+      (died p ≡ false → b .assessed ≡ true → therapyRecorded p ≡ false → isRecorded (progression b p) ≡ false → isCR (best b p) ≡ false → A → ⊥) →
       (bestSettled b p ≡ true) ↔ A
   unfolding bestSettled bestSettledBy
   best-mark over open-still =
-      go (isRecorded (progression b p)) refl (treated p) refl (died p) refl (b .assessed) refl (isCR (best b p)) refl
+      go (isRecorded (progression b p)) refl (therapyRecorded p) refl (died p) refl (b .assessed) refl (isCR (best b p)) refl
     where
-      is : (g t d a : Bool) → isRecorded (progression b p) ≡ g → treated p ≡ t → died p ≡ d → b .assessed ≡ a →
+      is : (g t d a : Bool) → isRecorded (progression b p) ≡ g → therapyRecorded p ≡ t → died p ≡ d → b .assessed ≡ a →
           bestSettled b p ≡ bestSettledBy g t d a (best b p)
       is g t d a eg et ed ea = cc
 
-      go : (g : Bool) → isRecorded (progression b p) ≡ g → (t : Bool) → treated p ≡ t → (d : Bool) → died p ≡ d →
+      go : (g : Bool) → isRecorded (progression b p) ≡ g → (t : Bool) → therapyRecorded p ≡ t → (d : Bool) → died p ≡ d →
           (a : Bool) → b .assessed ≡ a → (c : Bool) → isCR (best b p) ≡ c → (bestSettled b p ≡ true) ↔ A
-      go true eg t et d ed a ea c ec = holds (is true t d a eg et ed ea) (over (counted (closed (rw eg (either-with-true (treated p))))))
+      go true eg t et d ed a ea c ec = holds (is true t d a eg et ed ea) (over (counted (closed (rw eg (either-with-true (therapyRecorded p))))))
       go false eg true et d ed a ea c ec = holds (is false true d a eg et ed ea) (over (counted (closed (rw et))))
       go false eg false et true ed a ea c ec = holds (is false false true a eg et ed ea) (over (counted (afterDeath ed)))
       go false eg false et false ed false ea c ec = holds (is false false false false eg et ed ea) (over (counted (missing ea)))
@@ -107,8 +107,8 @@ module _ (b : Baseline) (p : Past) (passes : fieldsPass (baseline b) ≡ true) (
       go true e = rw e (grows e)
       go false e = rw e (begins e)
 
-pub settling : Settling
-settling =
+pub every-mark-exact : EveryMarkExact
+every-mark-exact =
     record {
       exact = λ b p passes lawfully.
           record {

@@ -9,8 +9,8 @@ use Rattle.endpoints.specs.Values.{Outcome}
 use Rattle.endpoints.specs.StudyRecords.{Baseline, StudyRecord, fieldsPass, allPass}
 use Rattle.endpoints.specs.Lawful.{Past, lawfulBehind}
 use Rattle.endpoints.specs.Settled.{outcome}
-use Rattle.endpoints.specs.Lasting.{Lasts, LastsInOrder, SettlingInOrder}
-use Rattle.endpoints.proofs.Exact.{settling}
+use Rattle.endpoints.specs.Lasting.{Lasts, LastsInOrder, EveryMarkExactInOrder}
+use Rattle.endpoints.proofs.Exact.{every-mark-exact}
 
 pass-append : (rs ss : List StudyRecord) → allPass rs ≡ true → allPass ss ≡ true → allPass (rs ++ ss) ≡ true
 pass-append [] ss e f = f
@@ -39,11 +39,11 @@ lasts-in-order part b rs = (
 trans-iff : {A B C : Type 0} → A ↔ B → B ↔ C → A ↔ C
 trans-iff f g = (λ a. g .0 (f .0 a), λ c. f .1 (g .1 c))
 
-pub settling-in-order : SettlingInOrder
-settling-in-order =
+pub every-mark-exact-in-order : EveryMarkExactInOrder
+every-mark-exact-in-order =
     record {
       exact = λ b rs passes lawfully.
-          let marks = settling .exact b (reverse rs) passes lawfully in
+          let marks = every-mark-exact .exact b (reverse rs) passes lawfully in
           record {
             pfs = trans-iff (marks .pfs) (lasts-in-order (λ (o : Outcome). o .pfs) b rs);
             best = trans-iff (marks .best) (lasts-in-order (λ (o : Outcome). o .best) b rs);

@@ -39,7 +39,7 @@ refusalBehind b p r =
     (pick (misfits b r) 11
     0)))
 
--- behind a list in the order recorded; 7 where it does not open with a baseline, which every list of accepted records does
+-- behind a list in the order recorded; every list of accepted records opens with a baseline, and for any other the answer is 7, which adding never gives
 abbrev pub refusalAfter : List StudyRecord → StudyRecord → ℕ
 refusalAfter [] r = 7
 refusalAfter (baseline b ∷ rs) r = refusalBehind b (reverse rs) r

@@ -1,81 +1,109 @@
--- Document 01, "Dates and records", "Where a call stops" and "Settled": lists that are not lawful, which refusal of adding comes first, and what a list
--- of calls accepts; proved in proofs/AtTheEdges.antt.
+-- Document 01, "Dates and records", "Where a call stops" and "Settled": lists that are not lawful, records with dates on their study days, which refusal
+-- of opening and adding comes first, and what a list of calls accepts; proved in proofs/AtTheEdges.antt.
 -- Assumes nothing.
 use mathlib.Core.Path.{_≡_}
 use mathlib.Core.Bool.{Bool, true, false}
-use mathlib.Core.List.{[], _∷_}
+use mathlib.Core.List.{List, [], _∷_}
+use Prim.Native.Nat.{ℕ}
 use Rattle.dates.specs.declared.Date.{Date}
 use Rattle.dates.specs.Laws.{ymd}
 use Rattle.records.specs.declared.Status.{Status}
 use Rattle.records.specs.declared.Status.the-variants as S
 use Rattle.records.specs.declared.Entry.the-variants as E
 use Rattle.records.specs.declared.Record.{Record}
-use Rattle.endpoints.specs.StudyRecords.{baseline, therapy, death}
+use Rattle.records.specs.Refusals.{mostTargets}
+use Rattle.endpoints.specs.StudyRecords.{StudyRecord, baseline, therapy, death, onStudyDays}
 use Rattle.endpoints.specs.Lawful.{lawful}
-use Rattle.endpoints.specs.Examples.{oneTarget, withNode, withStatus, size, twoSizes}
+use Rattle.endpoints.specs.Examples.{filled, oneTarget, withNode, visitOn, measuring}
 use Rattle.endpoints.specs.Adding.{refusalOfOpening, refusalOfAdding, add, read, accepted}
 
+abbrev pub behindOneTarget : List StudyRecord → Bool
+behindOneTarget rs = lawful (baseline oneTarget ∷ rs)
+
 pub record Unlawful : Type 0 where
-  pub withoutBaseline : lawful (size 43 90 ∷ []) ≡ false
-  pub secondBaseline : lawful (baseline (oneTarget 100) ∷ baseline (oneTarget 100) ∷ []) ≡ false
-  pub afterDeath : lawful (baseline (oneTarget 100) ∷ death 43 ∷ therapy 43 ∷ []) ≡ false
-  pub earlyTherapy : lawful (baseline (oneTarget 100) ∷ size 43 90 ∷ therapy 42 ∷ []) ≡ false
-  pub visitOnLatest : lawful (baseline (oneTarget 100) ∷ therapy 43 ∷ size 43 90 ∷ []) ≡ false
-  pub visitOnDay1 : lawful (baseline (oneTarget 100) ∷ size 1 90 ∷ []) ≡ false
-  pub beyondCount : lawful (baseline (oneTarget 100) ∷ twoSizes 43 0 0 S.NA ∷ []) ≡ false
-  pub statusOfNone : lawful (baseline (oneTarget 100) ∷ withStatus 43 90 S.CR ∷ []) ≡ false
-  pub noStatus : lawful (baseline withNode ∷ twoSizes 43 0 0 S.NA ∷ []) ≡ false
+  pub withoutBaseline : lawful (measuring 43 90 ∷ []) ≡ false
+  pub secondBaseline : behindOneTarget (baseline oneTarget ∷ []) ≡ false
+  pub afterDeath : behindOneTarget (death 43 ∷ therapy 43 ∷ []) ≡ false
+  pub earlyTherapy : behindOneTarget (measuring 43 90 ∷ therapy 42 ∷ []) ≡ false
+  pub earlyDeath : behindOneTarget (measuring 43 90 ∷ death 42 ∷ []) ≡ false
+  pub visitOnLatest : behindOneTarget (therapy 43 ∷ measuring 43 90 ∷ []) ≡ false
+  pub visitOnDay1 : behindOneTarget (measuring 1 90 ∷ []) ≡ false
+  pub beyondCount : behindOneTarget (visitOn 43 S.NA false (0 ∷ 0 ∷ []) ∷ []) ≡ false
+  pub statusWithoutLesions : behindOneTarget (visitOn 43 S.CR false (90 ∷ []) ∷ []) ≡ false
+  pub lesionsWithoutStatus : lawful (baseline withNode ∷ visitOn 43 S.NA false (0 ∷ 0 ∷ []) ∷ []) ≡ false
 
--- a target of 40, a node of 20 and non-target disease
-abbrev pub baselineOn : Date → Record
-baselineOn d =
+-- a baseline: assessed, non-target disease, count, and the sizes; the second target is a node
+abbrev pub baselineDated : Date → Bool → Bool → ℕ → List ℕ → Record
+baselineDated d assessed nontarget count sizes =
     record {
-      entry = E.Baseline (record { date = d; assessed = true; nontarget = true; count = 2 });
-      sizes = 40 ∷ 20 ∷ 0 ∷ 0 ∷ 0 ∷ [];
-      marks = false ∷ true ∷ false ∷ false ∷ false ∷ [];
+      entry = E.Baseline (record { date = d; assessed = assessed; nontarget = nontarget; count = count });
+      sizes = filled 0 mostTargets sizes;
+      marks = filled false mostTargets (false ∷ assessed ∷ []);
     }
 
--- the target of 24, the node of 12, and a third target measured or not
-abbrev pub visitOn : Date → Status → Bool → Record
-visitOn d s third =
+abbrev pub visitDated : Date → Status → Bool → List Bool → List ℕ → Record
+visitDated d s new measured sizes =
     record {
-      entry = E.Visit (record { date = d; status = s; newlesion = false });
-      sizes = 24 ∷ 12 ∷ 0 ∷ 0 ∷ 0 ∷ [];
-      marks = true ∷ true ∷ third ∷ false ∷ false ∷ [];
+      entry = E.Visit (record { date = d; status = s; newlesion = new });
+      sizes = filled 0 mostTargets sizes;
+      marks = filled false mostTargets measured;
     }
 
-abbrev pub therapyOn : Date → Record
-therapyOn d =
-    record { entry = E.Therapy d; sizes = 0 ∷ 0 ∷ 0 ∷ 0 ∷ 0 ∷ []; marks = false ∷ false ∷ false ∷ false ∷ false ∷ [] }
+abbrev pub therapyDated : Date → Record
+therapyDated d = record { entry = E.Therapy d; sizes = filled 0 mostTargets []; marks = filled false mostTargets [] }
 
-abbrev pub deathOn : Date → Record
-deathOn d =
-    record { entry = E.Death d; sizes = 0 ∷ 0 ∷ 0 ∷ 0 ∷ 0 ∷ []; marks = false ∷ false ∷ false ∷ false ∷ false ∷ [] }
+abbrev pub deathDated : Date → Record
+deathDated d = record { entry = E.Death d; sizes = filled 0 mostTargets []; marks = filled false mostTargets [] }
+
+-- the baseline and the first visit of the printed example
+abbrev pub printedBaseline : Date → Record
+printedBaseline d = baselineDated d true true 2 (40 ∷ 20 ∷ [])
 
 abbrev pub opened : Record
-opened = baselineOn (ymd 2020 1 1)
+opened = printedBaseline (ymd 2020 1 1)
 
 abbrev pub visited : Record
-visited = visitOn (ymd 2020 2 12) S.NN false
+visited = visitDated (ymd 2020 2 12) S.NN false (true ∷ true ∷ []) (24 ∷ 12 ∷ [])
+
+-- days 1, 43, 85 and 127 of the printed example, with a record of each kind
+pub record OnStudyDays : Type 0 where
+  pub eachKind : onStudyDays
+      (opened
+      ∷ visited
+      ∷ visitDated (ymd 2020 3 25) S.PD true (true ∷ []) (24 ∷ [])
+      ∷ therapyDated (ymd 2020 3 25)
+      ∷ deathDated (ymd 2020 5 6)
+      ∷ [])
+      ≡ baseline withNode ∷ visitOn 43 S.NN false (24 ∷ 12 ∷ []) ∷ visitOn 85 S.PD true (24 ∷ []) ∷ therapy 85 ∷ death 127 ∷ []
 
 pub record FirstRefusals : Type 0 where
+  -- opening: 3 to 5, then 7
   pub opens : refusalOfOpening opened ≡ 0
+  pub opensMissing : refusalOfOpening (baselineDated (ymd 2020 1 1) false false 0 []) ≡ 0
+  pub opensWithoutDate : refusalOfOpening (visitDated (ymd 2021 2 29) S.NN false (true ∷ []) (501 ∷ [])) ≡ 3
+  pub opensWithLargeVisit : refusalOfOpening (visitDated (ymd 2020 2 12) S.NN false (true ∷ []) (501 ∷ [])) ≡ 4
+  pub opensWithoutDisease : refusalOfOpening (baselineDated (ymd 2020 1 1) true false 0 []) ≡ 4
+  pub opensMissingWithCount : refusalOfOpening (baselineDated (ymd 2020 1 1) false false 1 []) ≡ 5
   pub opensWithVisit : refusalOfOpening visited ≡ 7
-  -- 3 before 8
-  pub secondBaseline : refusalOfAdding (opened ∷ []) (baselineOn (ymd 2020 2 12)) ≡ 8
-  pub withoutDate : refusalOfAdding (opened ∷ []) (baselineOn (ymd 2021 2 29)) ≡ 3
+  pub opensWithTherapy : refusalOfOpening (therapyDated (ymd 2020 1 1)) ≡ 7
+  -- adding: the record's own first
+  pub withoutDate : refusalOfAdding (opened ∷ []) (printedBaseline (ymd 2021 2 29)) ≡ 3
+  pub largeSize : refusalOfAdding (opened ∷ []) (visitDated (ymd 2020 1 1) S.NN false (true ∷ []) (501 ∷ [])) ≡ 4
+  pub sizeUnmeasured : refusalOfAdding (opened ∷ []) (visitDated (ymd 2020 1 1) S.NN false [] (12 ∷ [])) ≡ 5
+  -- 8 before 9
+  pub secondBaseline : refusalOfAdding (opened ∷ deathDated (ymd 2020 3 1) ∷ []) (printedBaseline (ymd 2020 2 12)) ≡ 8
   -- 9 before 10
-  pub afterDeath : refusalOfAdding (opened ∷ deathOn (ymd 2020 3 1) ∷ []) (therapyOn (ymd 2020 2 1)) ≡ 9
-  -- before randomisation, on day 1, and on the latest day
-  pub dayBefore : refusalOfAdding (opened ∷ []) (therapyOn (ymd 2019 12 31)) ≡ 10
-  pub therapyOnDay1 : refusalOfAdding (opened ∷ []) (therapyOn (ymd 2020 1 1)) ≡ 0
-  pub visitOnDay1 : refusalOfAdding (opened ∷ []) (visitOn (ymd 2020 1 1) S.NN false) ≡ 10
-  pub therapyOnLatest : refusalOfAdding (opened ∷ visited ∷ []) (therapyOn (ymd 2020 2 12)) ≡ 0
+  pub afterDeath : refusalOfAdding (opened ∷ deathDated (ymd 2020 3 1) ∷ []) (therapyDated (ymd 2020 2 1)) ≡ 9
+  -- 10: before randomisation, on day 1, and on the latest day
+  pub dayBefore : refusalOfAdding (opened ∷ []) (therapyDated (ymd 2019 12 31)) ≡ 10
+  pub therapyOnDay1 : refusalOfAdding (opened ∷ []) (therapyDated (ymd 2020 1 1)) ≡ 0
+  pub visitOnDay1 : refusalOfAdding (opened ∷ []) (visitDated (ymd 2020 1 1) S.NN false [] []) ≡ 10
+  pub therapyOnLatest : refusalOfAdding (opened ∷ visited ∷ []) (therapyDated (ymd 2020 2 12)) ≡ 0
   pub visitOnLatest : refusalOfAdding (opened ∷ visited ∷ []) visited ≡ 10
   -- 10 before 11
-  pub misfitOnLatest : refusalOfAdding (opened ∷ visited ∷ []) (visitOn (ymd 2020 2 12) S.NA false) ≡ 10
-  pub statusNA : refusalOfAdding (opened ∷ []) (visitOn (ymd 2020 2 12) S.NA false) ≡ 11
-  pub beyondCount : refusalOfAdding (opened ∷ []) (visitOn (ymd 2020 2 12) S.NN true) ≡ 11
+  pub misfitOnLatest : refusalOfAdding (opened ∷ visited ∷ []) (visitDated (ymd 2020 2 12) S.NA false [] []) ≡ 10
+  pub statusNA : refusalOfAdding (opened ∷ []) (visitDated (ymd 2020 2 12) S.NA false [] []) ≡ 11
+  pub beyondCount : refusalOfAdding (opened ∷ []) (visitDated (ymd 2020 2 12) S.NN false (false ∷ false ∷ true ∷ []) []) ≡ 11
   pub fitting : refusalOfAdding (opened ∷ []) visited ≡ 0
   -- a refused addition and a reading leave the accepted records as they are
-  pub calls : accepted opened (add (therapyOn (ymd 2019 12 31)) ∷ read ∷ add visited ∷ add visited ∷ []) ≡ opened ∷ visited ∷ []
+  pub calls : accepted opened (add (therapyDated (ymd 2019 12 31)) ∷ read ∷ add visited ∷ add visited ∷ []) ≡ opened ∷ visited ∷ []

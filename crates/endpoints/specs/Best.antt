@@ -6,7 +6,7 @@ use mathlib.Core.List.{List, [], _∷_}
 use lib.Dec.{leb}
 use Rattle.laws.specs.Choice.{both, either, pick}
 use Rattle.criteria.specs.Words.{Word, CR, PR, SD, PD, NE, NA, NN}
-use Rattle.endpoints.specs.Values.{Day, none, on, isRecorded, _orElse_, Pfs, Duration, noDuration, lasted}
+use Rattle.endpoints.specs.Values.{Day, none, on, isRecorded, _orElse_, Pfs, Duration, noDuration, forDays}
 use Rattle.endpoints.specs.StudyRecords.{Baseline}
 use Rattle.endpoints.specs.Lawful.{Past}
 use Rattle.endpoints.specs.Visits.{Judged, firstPD, counting}
@@ -99,10 +99,10 @@ abbrev pub firstResponse : List Judged → Day
 firstResponse [] = none
 firstResponse (j ∷ js) = firstResponse js orElse (pick (isResponse (j .answer)) (on (j .day)) none)
 
--- exists when best is CR or PR: PFS day − first counting CR or PR day + 1, with PFS's status
+-- exists when best is CR or PR: PFS day − first counting CR or PR day + 1, with PFS's status; in a lawful list PFS does not end before that day
 abbrev pub durationOf : Word → Day → Pfs → Duration
 durationOf best none pfs = noDuration
-durationOf best (on first) pfs = pick (isResponse best) (lasted (pfs .status) (pfs .day - first + 1)) noDuration
+durationOf best (on first) pfs = pick (isResponse best) (forDays (pfs .status) (pfs .day - first + 1)) noDuration
 
 unfoldable pub duration : Baseline → Past → Duration
 duration b p = durationOf (best b p) (firstResponse (counting b p)) (pfs b p)

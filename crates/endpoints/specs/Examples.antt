@@ -4,11 +4,13 @@
 use mathlib.Core.Path.{_≡_}
 use mathlib.Core.Bool.{Bool, true, false}
 use mathlib.Core.List.{List, [], _∷_, map, reverse}
-use Prim.Native.Nat.{ℕ}
+use Prim.Native.Nat.{ℕ, zero, suc}
+use lib.ListN.{length}
 use Rattle.laws.specs.Choice.{both}
 use Rattle.records.specs.declared.Status.{Status}
 use Rattle.records.specs.declared.Status.the-variants as S
-use Rattle.criteria.specs.Words.{Word, CR, PR, SD, PD, NE, NA}
+use Rattle.records.specs.Refusals.{mostTargets}
+use Rattle.criteria.specs.Words.{Word, CR, PR, SD, PD, NE}
 use Rattle.criteria.specs.Overall.{isPD}
 use Rattle.criteria.specs.Visits.{visitTarget}
 use Rattle.endpoints.specs.Values.{Pfs, event, censored, Duration, noDuration}
@@ -18,72 +20,49 @@ use Rattle.endpoints.specs.Visits.{visitsOf, Judged, judged}
 use Rattle.endpoints.specs.Best.{isCR}
 use Rattle.endpoints.specs.Settled.{outcome}
 
--- one target of this size and no other disease
-abbrev pub oneTarget : ℕ → Baseline
-oneTarget n =
-    record {
-      assessed = true;
-      nontarget = false;
-      count = 1;
-      nodes = false ∷ false ∷ false ∷ false ∷ false ∷ [];
-      sizes = n ∷ 0 ∷ 0 ∷ 0 ∷ 0 ∷ [];
-    }
+-- five places, the first of them as given
+abbrev pub filled : {A : Type 0} → A → ℕ → List A → List A
+filled blank zero xs = []
+filled blank (suc n) [] = blank ∷ filled blank n []
+filled blank (suc n) (x ∷ xs) = x ∷ filled blank n xs
+
+-- an assessed baseline: non-target disease or not, which targets are nodes, and the targets' sizes
+abbrev pub withTargets : Bool → List Bool → List ℕ → Baseline
+withTargets nontarget nodes sizes =
+    record { assessed = true; nontarget = nontarget; count = length sizes; nodes = filled false mostTargets nodes; sizes = filled 0 mostTargets sizes }
+
+-- one target of 100 and no other disease
+abbrev pub oneTarget : Baseline
+oneTarget = withTargets false [] (100 ∷ [])
 
 -- a target of 40, a node of 20 and non-target disease
 abbrev pub withNode : Baseline
-withNode =
-    record {
-      assessed = true;
-      nontarget = true;
-      count = 2;
-      nodes = false ∷ true ∷ false ∷ false ∷ false ∷ [];
-      sizes = 40 ∷ 20 ∷ 0 ∷ 0 ∷ 0 ∷ [];
-    }
+withNode = withTargets true (false ∷ true ∷ []) (40 ∷ 20 ∷ [])
+
+abbrev pub noTargets : Baseline
+noTargets = withTargets true [] []
 
 abbrev pub missing : Baseline
 missing =
-    record {
-      assessed = false;
-      nontarget = false;
-      count = 0;
-      nodes = false ∷ false ∷ false ∷ false ∷ false ∷ [];
-      sizes = 0 ∷ 0 ∷ 0 ∷ 0 ∷ 0 ∷ [];
-    }
+    record { assessed = false; nontarget = false; count = 0; nodes = filled false mostTargets []; sizes = filled 0 mostTargets [] }
 
--- on a day, of the one target: measured, with this non-target status or with NA, and not measured
-abbrev pub withStatus : ℕ → ℕ → Status → StudyRecord
-withStatus d n s =
+-- a visit on a day: non-target status, new lesion, and the sizes of the first targets; the others are not measured
+abbrev pub visitOn : ℕ → Status → Bool → List ℕ → StudyRecord
+visitOn d s new sizes =
     visit d
     (record {
       status = s;
-      newLesion = false;
-      measured = true ∷ false ∷ false ∷ false ∷ false ∷ [];
-      sizes = n ∷ 0 ∷ 0 ∷ 0 ∷ 0 ∷ [];
+      newLesion = new;
+      measured = filled false mostTargets (map (λ (n : ℕ). true) sizes);
+      sizes = filled 0 mostTargets sizes;
     })
 
-abbrev pub size : ℕ → ℕ → StudyRecord
-size d n = withStatus d n S.NA
+-- without non-target lesions: one target measured, and none
+abbrev pub measuring : ℕ → ℕ → StudyRecord
+measuring d n = visitOn d S.NA false (n ∷ [])
 
 abbrev pub unmeasured : ℕ → StudyRecord
-unmeasured d =
-    visit d
-    (record {
-      status = S.NA;
-      newLesion = false;
-      measured = false ∷ false ∷ false ∷ false ∷ false ∷ [];
-      sizes = 0 ∷ 0 ∷ 0 ∷ 0 ∷ 0 ∷ [];
-    })
-
--- on a day, of the target and the node: both measured, and the non-target status
-abbrev pub twoSizes : ℕ → ℕ → ℕ → Status → StudyRecord
-twoSizes d n k s =
-    visit d
-    (record {
-      status = s;
-      newLesion = false;
-      measured = true ∷ true ∷ false ∷ false ∷ false ∷ [];
-      sizes = n ∷ k ∷ 0 ∷ 0 ∷ 0 ∷ [];
-    })
+unmeasured d = visitOn d S.NA false []
 
 -- what an example says
 pub data Said : Type 0 where
@@ -93,7 +72,7 @@ pub data Said : Type 0 where
   bestIs : Word → Said
   durationIs : Duration → Said
 
--- the target answer of the last visit; NE after none
+-- the target answer of the last visit; NE where there is no visit
 abbrev pub lastTarget : Baseline → Past → Word
 lastTarget b [] = NE
 lastTarget b (baseline x ∷ p) = lastTarget b p
@@ -136,61 +115,59 @@ pub record Example : Type 0 where
   pub asked : Baseline → Past → Said
   pub paper : Said
 
-abbrev pub after : Baseline → List StudyRecord → List Word → (Baseline → Past → Said) → Said → Example
-after b rs ws f a = record { opening = b; behind = rs; visits = ws; asked = f; paper = a }
+abbrev pub example : Baseline → List StudyRecord → List Word → (Baseline → Past → Said) → Said → Example
+example b rs ws f a = record { opening = b; behind = rs; visits = ws; asked = f; paper = a }
 
 -- 15: PR 43, therapy 50, PR 85, PD 127
 abbrev pub afterTherapy : (Baseline → Past → Said) → Said → Example
-afterTherapy = after (oneTarget 100) (size 43 60 ∷ therapy 50 ∷ size 85 60 ∷ size 127 200 ∷ []) (PR ∷ PR ∷ PD ∷ [])
+afterTherapy = example oneTarget (measuring 43 60 ∷ therapy 50 ∷ measuring 85 60 ∷ measuring 127 200 ∷ []) (PR ∷ PR ∷ PD ∷ [])
 
 unfoldable pub starred : List Example
 starred =
     -- 1: baseline sum 100, sum 70 PR, 71 SD
-    after (oneTarget 100) (size 43 70 ∷ []) (PR ∷ []) targetOf (target PR)
-    ∷ after (oneTarget 100) (size 43 71 ∷ []) (SD ∷ []) targetOf (target SD)
+    example oneTarget (measuring 43 70 ∷ []) (PR ∷ []) targetOf (target PR)
+    ∷ example oneTarget (measuring 43 71 ∷ []) (SD ∷ []) targetOf (target SD)
     -- 2: nadir 20, 24 no PD, 25 PD
-    ∷ after (oneTarget 100) (size 43 20 ∷ size 85 24 ∷ []) (PR ∷ PR ∷ []) targetPD (is false)
-    ∷ after (oneTarget 100) (size 43 20 ∷ size 85 25 ∷ []) (PR ∷ PD ∷ []) targetPD (is true)
+    ∷ example oneTarget (measuring 43 20 ∷ measuring 85 24 ∷ []) (PR ∷ PR ∷ []) targetPD (is false)
+    ∷ example oneTarget (measuring 43 20 ∷ measuring 85 25 ∷ []) (PR ∷ PD ∷ []) targetPD (is true)
     -- 3: nadir 50, 59 no PD, 60 PD
-    ∷ after (oneTarget 100) (size 43 50 ∷ size 85 59 ∷ []) (PR ∷ PR ∷ []) targetPD (is false)
-    ∷ after (oneTarget 100) (size 43 50 ∷ size 85 60 ∷ []) (PR ∷ PD ∷ []) targetPD (is true)
+    ∷ example oneTarget (measuring 43 50 ∷ measuring 85 59 ∷ []) (PR ∷ PR ∷ []) targetPD (is false)
+    ∷ example oneTarget (measuring 43 50 ∷ measuring 85 60 ∷ []) (PR ∷ PD ∷ []) targetPD (is true)
     -- 4: node 9, rest 0, CR; node 10 not
-    ∷ after withNode (twoSizes 43 0 9 S.CR ∷ []) (CR ∷ []) targetCR (is true)
-    ∷ after withNode (twoSizes 43 0 10 S.CR ∷ []) (PR ∷ []) targetCR (is false)
+    ∷ example withNode (visitOn 43 S.CR false (0 ∷ 9 ∷ []) ∷ []) (CR ∷ []) targetCR (is true)
+    ∷ example withNode (visitOn 43 S.CR false (0 ∷ 10 ∷ []) ∷ []) (PR ∷ []) targetCR (is false)
     -- 5: SD 119, PD 217 event, PD 218 censored 119
-    ∷ after (oneTarget 100) (size 119 90 ∷ size 217 200 ∷ []) (SD ∷ PD ∷ []) pfsOfList (pfsIs (event 217))
-    ∷ after (oneTarget 100) (size 119 90 ∷ size 218 200 ∷ []) (SD ∷ PD ∷ []) pfsOfList (pfsIs (censored 119))
+    ∷ example oneTarget (measuring 119 90 ∷ measuring 217 200 ∷ []) (SD ∷ PD ∷ []) pfsOfList (pfsIs (event 217))
+    ∷ example oneTarget (measuring 119 90 ∷ measuring 218 200 ∷ []) (SD ∷ PD ∷ []) pfsOfList (pfsIs (censored 119))
     -- 6: SD 120, PD 232 event, 233 censored 120
-    ∷ after (oneTarget 100) (size 120 90 ∷ size 232 200 ∷ []) (SD ∷ PD ∷ []) pfsOfList (pfsIs (event 232))
-    ∷ after (oneTarget 100) (size 120 90 ∷ size 233 200 ∷ []) (SD ∷ PD ∷ []) pfsOfList (pfsIs (censored 120))
+    ∷ example oneTarget (measuring 120 90 ∷ measuring 232 200 ∷ []) (SD ∷ PD ∷ []) pfsOfList (pfsIs (event 232))
+    ∷ example oneTarget (measuring 120 90 ∷ measuring 233 200 ∷ []) (SD ∷ PD ∷ []) pfsOfList (pfsIs (censored 120))
     -- 8: no visits, death day 92 event, 93 censored 1
-    ∷ after (oneTarget 100) (death 92 ∷ []) [] pfsOfList (pfsIs (event 92))
-    ∷ after (oneTarget 100) (death 93 ∷ []) [] pfsOfList (pfsIs (censored 1))
+    ∷ example oneTarget (death 92 ∷ []) [] pfsOfList (pfsIs (event 92))
+    ∷ example oneTarget (death 93 ∷ []) [] pfsOfList (pfsIs (censored 1))
     -- 9: NE day 43, PD 141 event, 142 censored 1
-    ∷ after (oneTarget 100) (unmeasured 43 ∷ size 141 200 ∷ []) (NE ∷ PD ∷ []) pfsOfList (pfsIs (event 141))
-    ∷ after (oneTarget 100) (unmeasured 43 ∷ size 142 200 ∷ []) (NE ∷ PD ∷ []) pfsOfList (pfsIs (censored 1))
+    ∷ example oneTarget (unmeasured 43 ∷ measuring 141 200 ∷ []) (NE ∷ PD ∷ []) pfsOfList (pfsIs (event 141))
+    ∷ example oneTarget (unmeasured 43 ∷ measuring 142 200 ∷ []) (NE ∷ PD ∷ []) pfsOfList (pfsIs (censored 1))
     -- 10: CR 43, CR 70 best SD, CR 71 CR
-    ∷ after (oneTarget 100) (size 43 0 ∷ size 70 0 ∷ []) (CR ∷ CR ∷ []) bestOfList (bestIs SD)
-    ∷ after (oneTarget 100) (size 43 0 ∷ size 71 0 ∷ []) (CR ∷ CR ∷ []) bestOfList (bestIs CR)
+    ∷ example oneTarget (measuring 43 0 ∷ measuring 70 0 ∷ []) (CR ∷ CR ∷ []) bestOfList (bestIs SD)
+    ∷ example oneTarget (measuring 43 0 ∷ measuring 71 0 ∷ []) (CR ∷ CR ∷ []) bestOfList (bestIs CR)
     -- 12: baseline missing, therapy day 92, PFS open; 93 settled
-    ∷ after missing (therapy 92 ∷ []) [] pfsSettledOfList (is false)
-    ∷ after missing (therapy 93 ∷ []) [] pfsSettledOfList (is true)
+    ∷ example missing (therapy 92 ∷ []) [] pfsSettledOfList (is false)
+    ∷ example missing (therapy 93 ∷ []) [] pfsSettledOfList (is true)
     -- 13: CR 43, PR 85 (target CR, non-target NE), CR 127, best PR
-    ∷ after withNode (twoSizes 43 0 9 S.CR ∷ twoSizes 85 0 9 S.NE ∷ []) (CR ∷ PR ∷ []) targetCR (is true)
-    ∷ after withNode (twoSizes 43 0 9 S.CR ∷ twoSizes 85 0 9 S.NE ∷ twoSizes 127 0 9 S.CR ∷ []) (CR ∷ PR ∷ CR ∷ []) bestOfList (bestIs PR)
+    ∷ example withNode (visitOn 43 S.CR false (0 ∷ 9 ∷ []) ∷ visitOn 85 S.NE false (0 ∷ 9 ∷ []) ∷ []) (CR ∷ PR ∷ []) targetCR (is true)
+    ∷ example withNode (visitOn 43 S.CR false (0 ∷ 9 ∷ []) ∷ visitOn 85 S.NE false (0 ∷ 9 ∷ []) ∷ visitOn 127 S.CR false (0 ∷ 9 ∷ []) ∷ []) (CR ∷ PR ∷ CR ∷ []) bestOfList (bestIs PR)
     -- 15: PFS event 127, best SD, no duration
     ∷ afterTherapy pfsOfList (pfsIs (event 127))
     ∷ afterTherapy bestOfList (bestIs SD)
     ∷ afterTherapy durationOfList (durationIs noDuration)
     ∷ []
 
--- every list is lawful and neither 4 nor 5 meets its records; its visits have these answers; and what is asked has the paper's answer
-abbrev pub isLawful : Example → Bool
-isLawful e = both (lawful (baseline (e .opening) ∷ e .behind)) (allPass (baseline (e .opening) ∷ e .behind))
-
-abbrev pub allLawful : List Example → Bool
-allLawful [] = true
-allLawful (e ∷ es) = both (isLawful e) (allLawful es)
+-- the list is lawful, and neither 4 nor 5 meets its records
+abbrev pub lawfulAndPassing : List Example → Bool
+lawfulAndPassing [] = true
+lawfulAndPassing (e ∷ es) =
+    both (both (lawful (baseline (e .opening) ∷ e .behind)) (allPass (baseline (e .opening) ∷ e .behind))) (lawfulAndPassing es)
 
 abbrev pub overallAnswers : Example → List Word
 overallAnswers e = map (λ (j : Judged). j .answer) (reverse (judged (e .opening) (reverse (e .behind))))
@@ -198,7 +175,8 @@ overallAnswers e = map (λ (j : Judged). j .answer) (reverse (judged (e .opening
 abbrev pub answered : Example → Said
 answered e = e .asked (e .opening) (reverse (e .behind))
 
+-- every list is lawful, its visits have the overall answers said, and what is asked has the paper's answer
 pub record Hold (es : List Example) : Type 0 where
-  pub lawfulLists : allLawful es ≡ true
+  pub lists : lawfulAndPassing es ≡ true
   pub visits : map overallAnswers es ≡ map (λ (e : Example). e .visits) es
   pub answers : map answered es ≡ map (λ (e : Example). e .paper) es

@@ -1,53 +1,75 @@
--- Document 01: examples 7 and 11, the outcome of the printed example, and cases in which its sentences part; proved in proofs/AtTheEdges.antt.
+-- Document 01: examples 7 and 11, the outcome of the printed example, and cases in which one sentence of "Outcome" applies and a similar one does not;
+-- proved in proofs/AtTheEdges.antt.
 -- Assumes nothing.
-use mathlib.Core.Bool.{true}
+use mathlib.Core.Bool.{true, false}
 use mathlib.Core.List.{List, [], _∷_}
 use Rattle.records.specs.declared.Status.the-variants as S
 use Rattle.criteria.specs.Words.{CR, PR, SD, PD, NE}
-use Rattle.endpoints.specs.Values.{EVENT, CENSORED, event, censored, lasted}
+use Rattle.endpoints.specs.Values.{EVENT, CENSORED, event, censored, forDays}
 use Rattle.endpoints.specs.StudyRecords.{Baseline, therapy, death}
 use Rattle.endpoints.specs.Lawful.{Past}
-use Rattle.endpoints.specs.Examples.{oneTarget, withNode, missing, size, unmeasured, twoSizes, Said, is, pfsIs, bestIs, durationIs, pfsOfList, bestOfList, durationOfList, pfsSettledOfList, bestSettledOfList, durationSettledOfList, Example, after}
+use Rattle.endpoints.specs.Examples.{oneTarget, withNode, noTargets, missing, visitOn, measuring, unmeasured, Said, is, pfsIs, bestIs, durationIs, targetPD, pfsOfList, bestOfList, durationOfList, pfsSettledOfList, bestSettledOfList, durationSettledOfList, Example, example}
 
 -- the printed example
 abbrev pub printed : (Baseline → Past → Said) → Said → Example
-printed = after withNode (twoSizes 43 24 12 S.NN ∷ twoSizes 85 0 9 S.NN ∷ twoSizes 127 0 15 S.NN ∷ []) (PR ∷ PR ∷ PD ∷ [])
+printed = example withNode (visitOn 43 S.NN false (24 ∷ 12 ∷ []) ∷ visitOn 85 S.NN false (0 ∷ 9 ∷ []) ∷ visitOn 127 S.NN false (0 ∷ 15 ∷ []) ∷ []) (PR ∷ PR ∷ PD ∷ [])
 
 unfoldable pub further : List Example
 further =
     -- 7: SD 162, PD 288 event, 289 censored 162
-    after (oneTarget 100) (size 162 90 ∷ size 288 200 ∷ []) (SD ∷ PD ∷ []) pfsOfList (pfsIs (event 288))
-    ∷ after (oneTarget 100) (size 162 90 ∷ size 289 200 ∷ []) (SD ∷ PD ∷ []) pfsOfList (pfsIs (censored 162))
+    example oneTarget (measuring 162 90 ∷ measuring 288 200 ∷ []) (SD ∷ PD ∷ []) pfsOfList (pfsIs (event 288))
+    ∷ example oneTarget (measuring 162 90 ∷ measuring 289 200 ∷ []) (SD ∷ PD ∷ []) pfsOfList (pfsIs (censored 162))
     -- 11: SD day 35 best NE, 36 SD
-    ∷ after (oneTarget 100) (size 35 90 ∷ []) (SD ∷ []) bestOfList (bestIs NE)
-    ∷ after (oneTarget 100) (size 36 90 ∷ []) (SD ∷ []) bestOfList (bestIs SD)
+    ∷ example oneTarget (measuring 35 90 ∷ []) (SD ∷ []) bestOfList (bestIs NE)
+    ∷ example oneTarget (measuring 36 90 ∷ []) (SD ∷ []) bestOfList (bestIs SD)
     -- the lines P, B, D and S of the printed example
     ∷ printed pfsOfList (pfsIs (event 127))
     ∷ printed bestOfList (bestIs PR)
-    ∷ printed durationOfList (durationIs (lasted EVENT 85))
+    ∷ printed durationOfList (durationIs (forDays EVENT 85))
     ∷ printed pfsSettledOfList (is true)
     ∷ printed bestSettledOfList (is true)
     ∷ printed durationSettledOfList (is true)
-    -- v = 1: a progression 91 days after it, and 92
-    ∷ after (oneTarget 100) (size 92 200 ∷ []) (PD ∷ []) pfsOfList (pfsIs (event 92))
-    ∷ after (oneTarget 100) (size 93 200 ∷ []) (PD ∷ []) pfsOfList (pfsIs (censored 1))
-    -- a visit on the day of death is v
-    ∷ after (oneTarget 100) (size 43 90 ∷ unmeasured 200 ∷ death 200 ∷ []) (SD ∷ NE ∷ []) pfsOfList (pfsIs (event 200))
-    ∷ after (oneTarget 100) (size 43 90 ∷ death 200 ∷ []) (SD ∷ []) pfsOfList (pfsIs (censored 43))
+    -- the other edges of the bands
+    ∷ example oneTarget (measuring 92 200 ∷ []) (PD ∷ []) pfsOfList (pfsIs (event 92))
+    ∷ example oneTarget (measuring 93 200 ∷ []) (PD ∷ []) pfsOfList (pfsIs (censored 1))
+    ∷ example oneTarget (measuring 2 90 ∷ measuring 100 200 ∷ []) (SD ∷ PD ∷ []) pfsOfList (pfsIs (event 100))
+    ∷ example oneTarget (measuring 2 90 ∷ measuring 101 200 ∷ []) (SD ∷ PD ∷ []) pfsOfList (pfsIs (censored 2))
+    ∷ example oneTarget (measuring 161 90 ∷ measuring 273 200 ∷ []) (SD ∷ PD ∷ []) pfsOfList (pfsIs (event 273))
+    ∷ example oneTarget (measuring 161 90 ∷ measuring 274 200 ∷ []) (SD ∷ PD ∷ []) pfsOfList (pfsIs (censored 161))
+    -- two visits missed: censored at the last evaluable visit and not at v
+    ∷ example oneTarget (measuring 43 90 ∷ unmeasured 85 ∷ measuring 300 200 ∷ []) (SD ∷ NE ∷ PD ∷ []) pfsOfList (pfsIs (censored 43))
+    ∷ example oneTarget (measuring 43 90 ∷ unmeasured 85 ∷ death 300 ∷ []) (SD ∷ NE ∷ []) pfsOfList (pfsIs (censored 43))
+    -- a death after an evaluable visit has the gap limits, and a visit on the day of death is v
+    ∷ example oneTarget (measuring 119 90 ∷ death 217 ∷ []) (SD ∷ []) pfsOfList (pfsIs (event 217))
+    ∷ example oneTarget (measuring 119 90 ∷ death 218 ∷ []) (SD ∷ []) pfsOfList (pfsIs (censored 119))
+    ∷ example oneTarget (measuring 43 90 ∷ unmeasured 200 ∷ death 200 ∷ []) (SD ∷ NE ∷ []) pfsOfList (pfsIs (event 200))
     -- a death without an evaluable visit is judged from day 1, whatever visits there were
-    ∷ after (oneTarget 100) (unmeasured 43 ∷ death 134 ∷ []) (NE ∷ []) pfsOfList (pfsIs (censored 1))
-    -- progression before death, and a progression after a therapy
-    ∷ after (oneTarget 100) (size 43 90 ∷ size 85 200 ∷ death 90 ∷ []) (SD ∷ PD ∷ []) pfsOfList (pfsIs (event 85))
-    ∷ after (oneTarget 100) (therapy 20 ∷ size 43 200 ∷ []) (PD ∷ []) bestOfList (bestIs NE)
-    -- a visit after the progression moves nothing but the nadir
-    ∷ after (oneTarget 100) (size 43 90 ∷ size 85 200 ∷ size 127 0 ∷ size 169 0 ∷ []) (SD ∷ PD ∷ CR ∷ CR ∷ []) pfsOfList (pfsIs (event 85))
-    ∷ after (oneTarget 100) (size 43 90 ∷ size 85 200 ∷ size 127 0 ∷ size 169 0 ∷ []) (SD ∷ PD ∷ CR ∷ CR ∷ []) bestOfList (bestIs SD)
+    ∷ example oneTarget (unmeasured 43 ∷ death 134 ∷ []) (NE ∷ []) pfsOfList (pfsIs (censored 1))
+    -- neither progression nor death
+    ∷ example oneTarget [] [] pfsOfList (pfsIs (censored 1))
+    ∷ example oneTarget (measuring 43 90 ∷ unmeasured 85 ∷ []) (SD ∷ NE ∷ []) pfsOfList (pfsIs (censored 43))
+    -- a progression before a death, and one after a therapy
+    ∷ example oneTarget (measuring 43 90 ∷ measuring 85 200 ∷ death 90 ∷ []) (SD ∷ PD ∷ []) pfsOfList (pfsIs (event 85))
+    ∷ example oneTarget (therapy 20 ∷ measuring 43 200 ∷ []) (PD ∷ []) bestOfList (bestIs NE)
+    -- a visit after the progression changes neither PFS nor best response
+    ∷ example oneTarget (measuring 43 90 ∷ measuring 85 200 ∷ measuring 127 0 ∷ measuring 169 0 ∷ []) (SD ∷ PD ∷ CR ∷ CR ∷ []) pfsOfList
+    (pfsIs (event 85))
+    ∷ example oneTarget (measuring 43 90 ∷ measuring 85 200 ∷ measuring 127 0 ∷ measuring 169 0 ∷ []) (SD ∷ PD ∷ CR ∷ CR ∷ []) bestOfList
+    (bestIs SD)
+    -- a visit moves the nadir, later therapy or progression notwithstanding
+    ∷ example oneTarget (measuring 43 50 ∷ therapy 50 ∷ measuring 85 60 ∷ []) (PR ∷ PD ∷ []) pfsOfList (pfsIs (event 85))
+    ∷ example oneTarget (measuring 43 90 ∷ measuring 85 200 ∷ measuring 127 50 ∷ measuring 169 60 ∷ []) (SD ∷ PD ∷ PR ∷ PD ∷ []) targetPD (is true)
     -- a progression that the gap censors still counts for best response
-    ∷ after (oneTarget 100) (unmeasured 43 ∷ size 142 200 ∷ []) (NE ∷ PD ∷ []) bestOfList (bestIs PD)
-    -- CR with an NE between, and a duration that is censored
-    ∷ after (oneTarget 100) (size 43 0 ∷ unmeasured 60 ∷ size 71 0 ∷ []) (CR ∷ NE ∷ CR ∷ []) bestOfList (bestIs CR)
-    ∷ after (oneTarget 100) (size 43 0 ∷ size 50 0 ∷ size 71 0 ∷ []) (CR ∷ CR ∷ CR ∷ []) durationOfList (durationIs (lasted CENSORED 29))
-    -- baseline missing: every visit is NE
-    ∷ after missing (unmeasured 43 ∷ death 92 ∷ []) (NE ∷ []) pfsOfList (pfsIs (event 92))
-    ∷ after missing (unmeasured 43 ∷ unmeasured 85 ∷ []) (NE ∷ NE ∷ []) bestOfList (bestIs NE)
+    ∷ example oneTarget (unmeasured 43 ∷ measuring 142 200 ∷ []) (NE ∷ PD ∷ []) bestOfList (bestIs PD)
+    -- CR and NE may stand between two CR visits; SD may not, and may stand between two responses
+    ∷ example oneTarget (measuring 43 0 ∷ unmeasured 60 ∷ measuring 71 0 ∷ []) (CR ∷ NE ∷ CR ∷ []) bestOfList (bestIs CR)
+    ∷ example oneTarget (measuring 43 0 ∷ measuring 50 0 ∷ measuring 71 0 ∷ []) (CR ∷ CR ∷ CR ∷ []) bestOfList (bestIs CR)
+    ∷ example noTargets (visitOn 43 S.CR false [] ∷ visitOn 57 S.NN false [] ∷ visitOn 71 S.CR false [] ∷ []) (CR ∷ SD ∷ CR ∷ []) bestOfList
+    (bestIs PR)
+    -- a duration that is censored
+    ∷ example oneTarget (measuring 43 0 ∷ measuring 50 0 ∷ measuring 71 0 ∷ []) (CR ∷ CR ∷ CR ∷ []) durationOfList
+    (durationIs (forDays CENSORED 29))
+    -- baseline missing: every visit is NE, new lesion or not
+    ∷ example missing (visitOn 43 S.NA true [] ∷ death 92 ∷ []) (NE ∷ []) pfsOfList (pfsIs (event 92))
+    ∷ example missing (visitOn 43 S.NA true [] ∷ unmeasured 85 ∷ []) (NE ∷ NE ∷ []) bestOfList (bestIs NE)
     ∷ []

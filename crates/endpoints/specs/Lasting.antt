@@ -1,4 +1,4 @@
--- Document 01, demand 3 and "Settled": a part of the outcome that no lawful run of further records changes, and what a mark claims.
+-- Document 01, "Settled" and demand 3: each mark is true exactly when no lawful run of further records changes its part of the outcome.
 -- Assumes nothing.
 use mathlib.Core.Bool.{true}
 use mathlib.Core.List.{List, [], _∷_, _++_, reverse}
@@ -21,7 +21,7 @@ pub record MarksExact (b : Baseline) (p : Past) : Type 0 where
   pub duration : (outcome b p .durationSettled ≡ true) ↔ Lasts (λ (o : Outcome). o .duration) b p
 
 -- of every lawful list whose baseline passes 4 and 5
-pub record Settling : Type 0 where
+pub record EveryMarkExact : Type 0 where
   pub exact : (b : Baseline) (p : Past) → fieldsPass (baseline b) ≡ true → lawfulBehind b p ≡ true → MarksExact b p
 
 -- the same in the order recorded, with the run behind the list
@@ -38,10 +38,10 @@ pub record MarksExactInOrder (b : Baseline) (rs : List StudyRecord) : Type 0 whe
   pub best : (outcomeInOrder b rs .bestSettled ≡ true) ↔ LastsInOrder (λ (o : Outcome). o .best) b rs
   pub duration : (outcomeInOrder b rs .durationSettled ≡ true) ↔ LastsInOrder (λ (o : Outcome). o .duration) b rs
 
-pub record SettlingInOrder : Type 0 where
+pub record EveryMarkExactInOrder : Type 0 where
   pub exact : (b : Baseline) (rs : List StudyRecord) → fieldsPass (baseline b) ≡ true → lawful (baseline b ∷ rs) ≡ true → MarksExactInOrder b rs
 
--- a list that opens with a baseline has exact marks
+-- the marks of a list, baseline first, are exact; of a list that opens otherwise nothing is claimed
 abbrev pub MarksExactOn : List StudyRecord → Type 0
 MarksExactOn [] = ⊥
 MarksExactOn (baseline b ∷ rs) = MarksExactInOrder b rs

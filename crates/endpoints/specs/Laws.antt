@@ -2,7 +2,7 @@
 -- Assumes nothing.
 use mathlib.Core.Path.{_≡_}
 use mathlib.Core.Bool.{true, false}
-use mathlib.Core.List.{List, _∷_}
+use mathlib.Core.List.{List, [], _∷_, _++_}
 use mathlib.Core.Logic.{_↔_}
 use Prim.Native.Nat.{_<_}
 use Rattle.dates.specs.declared.Date.{Date}
@@ -15,7 +15,7 @@ use Rattle.endpoints.specs.StudyRecords.{Baseline, StudyRecord, dayOf, f
 use Rattle.endpoints.specs.Lawful.{Past, latestDay, lawfulBehind, lawful}
 use Rattle.endpoints.specs.Best.{isResponse, best, duration}
 use Rattle.endpoints.specs.Lasting.{MarksExactOn}
-use Rattle.endpoints.specs.Adding.{isBaseline, tooEarly, refusalBehind, refusalOfOpening, Call, accepted}
+use Rattle.endpoints.specs.Adding.{isBaseline, tooEarly, refusalBehind, refusalOfOpening, refusalOfAdding, Call, accepted}
 
 pub record ListLaws : Type 0 where
   -- in a lawful list the latest day is that of the last record
@@ -36,5 +36,8 @@ pub record AddingLaws : Type 0 where
 pub record CallLaws : Type 0 where
   -- from an accepted opening every list of calls leads to a lawful list
   pub acceptedLawful : (b : Record) (cs : List Call) → refusalOfOpening b ≡ 0 → lawful (onStudyDays (accepted b cs)) ≡ true
+  -- behind which a record goes exactly where none of 3 to 5 meets it and the list with it is lawful
+  pub addedExactly : (b : Record) (cs : List Call) (r : Record) → refusalOfOpening b ≡ 0 →
+      (refusalOfAdding (accepted b cs) r ≡ 0) ↔ ((refusalOf r ≡ 0) × (lawful (onStudyDays (accepted b cs ++ (r ∷ []))) ≡ true))
   -- and each mark of the outcome of that list is true exactly when its part lasts
   pub acceptedExact : (b : Record) (cs : List Call) → Five b → refusalOfOpening b ≡ 0 → MarksExactOn (onStudyDays (accepted b cs))

@@ -8,7 +8,7 @@ use Rattle.criteria.specs.Words.{Word}
 use Rattle.endpoints.specs.Values.{isRecorded, Duration, exists, Outcome}
 use Rattle.endpoints.specs.StudyRecords.{Baseline}
 use Rattle.endpoints.specs.Lawful.{Past, latestDay, died}
-use Rattle.endpoints.specs.Visits.{treated, progression}
+use Rattle.endpoints.specs.Visits.{therapyRecorded, progression}
 use Rattle.endpoints.specs.Pfs.{earlyDeath, pfs}
 use Rattle.endpoints.specs.Best.{isCR, best, duration}
 
@@ -22,8 +22,8 @@ pfsSettledBy assessed progressed dead latest = pick assessed (either progressed 
 
 -- progression, therapy, death, baseline missing, or best is CR
 unfoldable pub bestSettledBy : Bool → Bool → Bool → Bool → Word → Bool
-bestSettledBy progressed treated dead assessed best =
-    either progressed (either treated (either dead (either (not assessed) (isCR best))))
+bestSettledBy progressed therapyRecorded dead assessed best =
+    either progressed (either therapyRecorded (either dead (either (not assessed) (isCR best))))
 
 -- where it exists, PFS is settled; where not, best is settled
 unfoldable pub durationSettledBy : Duration → Bool → Bool → Bool
@@ -33,7 +33,7 @@ unfoldable pub pfsSettled : Baseline → Past → Bool
 pfsSettled b p = pfsSettledBy (b .assessed) (isRecorded (progression b p)) (died p) (latestDay p)
 
 unfoldable pub bestSettled : Baseline → Past → Bool
-bestSettled b p = bestSettledBy (isRecorded (progression b p)) (treated p) (died p) (b .assessed) (best b p)
+bestSettled b p = bestSettledBy (isRecorded (progression b p)) (therapyRecorded p) (died p) (b .assessed) (best b p)
 
 unfoldable pub durationSettled : Baseline → Past → Bool
 durationSettled b p = durationSettledBy (duration b p) (pfsSettled b p) (bestSettled b p)

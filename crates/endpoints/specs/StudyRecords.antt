@@ -40,7 +40,7 @@ dayOf (visit d v) = d
 dayOf (therapy d) = d
 dayOf (death d) = d
 
--- the entries of a record without its date, which neither the response rules nor 4 and 5 look at
+-- the entries of a record, with the date 0000-00-00, since neither the response rules nor 4 and 5 look at it
 abbrev pub entryOfBaseline : Baseline → BaselineEntry
 entryOfBaseline b = record { date = ymd 0 0 0; assessed = b .assessed; nontarget = b .nontarget; count = b .count }
 
@@ -68,7 +68,7 @@ abbrev pub allPass : List StudyRecord → Bool
 allPass [] = true
 allPass (r ∷ rs) = both (fieldsPass r) (allPass rs)
 
--- the study day of a date; 0, which is no study day, where the date is before randomisation or does not exist
+-- the study day of a date; 0, which is no study day, where the date is before randomisation or either of them does not exist
 abbrev pub studyDay : Date → Date → ℕ
 studyDay randomisation d = studyDayOf d randomisation .day
 

@@ -5,8 +5,8 @@ use mathlib.Core.Bool.{Bool, true, false}
 use Rattle.criteria.specs.Words.{Word, CR, PR, SD, PD, NE}
 use Rattle.endpoints.specs.declared.MaybeDay.{MaybeDay}
 use Rattle.endpoints.specs.declared.MaybeDay.the-variants as M
-use Rattle.endpoints.specs.declared.EndStatus.{EndStatus}
-use Rattle.endpoints.specs.declared.EndStatus.the-variants as E
+use Rattle.endpoints.specs.declared.PfsStatus.{PfsStatus}
+use Rattle.endpoints.specs.declared.PfsStatus.the-variants as E
 use Rattle.endpoints.specs.declared.PfsResult.{PfsResult}
 use Rattle.endpoints.specs.declared.BestResponse.{BestResponse}
 use Rattle.endpoints.specs.declared.BestResponse.the-variants as B
@@ -32,13 +32,13 @@ orDay1 none = 1
 orDay1 (on d) = d
 
 -- the status of PFS and of duration, by the listing's words
-pub data Ending : Type 0 where
-  EVENT : Ending
-  CENSORED : Ending
+pub data PfsWord : Type 0 where
+  EVENT : PfsWord
+  CENSORED : PfsWord
 
 -- PFS: a status and a day
 pub record Pfs : Type 0 where
-  pub status : Ending
+  pub status : PfsWord
   pub day : ℕ
 
 abbrev pub event : ℕ → Pfs
@@ -50,11 +50,11 @@ censored d = record { status = CENSORED; day = d }
 -- duration: none, or a status and days
 pub data Duration : Type 0 where
   noDuration : Duration
-  lasted : Ending → ℕ → Duration
+  forDays : PfsWord → ℕ → Duration
 
 abbrev pub exists : Duration → Bool
 exists noDuration = false
-exists (lasted s n) = true
+exists (forDays s n) = true
 
 -- the outcome: its three parts, and for each whether it is settled
 pub record Outcome : Type 0 where
@@ -70,12 +70,12 @@ abbrev pub dayValue : MaybeDay → Day
 dayValue M.Absent = none
 dayValue (M.On d) = on (d .0)
 
-abbrev pub endWord : EndStatus → Ending
-endWord E.Event = EVENT
-endWord E.Censored = CENSORED
+abbrev pub wordOfStatus : PfsStatus → PfsWord
+wordOfStatus E.Event = EVENT
+wordOfStatus E.Censored = CENSORED
 
 abbrev pub pfsValues : PfsResult → Pfs
-pfsValues r = record { status = endWord (r .status); day = r .day .0 }
+pfsValues r = record { status = wordOfStatus (r .status); day = r .day .0 }
 
 abbrev pub bestWord : BestResponse → Word
 bestWord B.CR = CR
@@ -86,4 +86,4 @@ bestWord B.NE = NE
 
 abbrev pub durationValues : DurationAnswer → Duration
 durationValues D.Absent = noDuration
-durationValues (D.Lasted r) = lasted (endWord (r .status)) (r .days)
+durationValues (D.ForDays r) = forDays (wordOfStatus (r .status)) (r .days)

@@ -19,12 +19,12 @@ visitsOf (visit d v ∷ p) = v ∷ visitsOf p
 visitsOf (therapy d ∷ p) = visitsOf p
 visitsOf (death d ∷ p) = visitsOf p
 
-abbrev pub treated : Past → Bool
-treated [] = false
-treated (baseline b ∷ p) = treated p
-treated (visit d v ∷ p) = treated p
-treated (therapy d ∷ p) = true
-treated (death d ∷ p) = treated p
+abbrev pub therapyRecorded : Past → Bool
+therapyRecorded [] = false
+therapyRecorded (baseline b ∷ p) = therapyRecorded p
+therapyRecorded (visit d v ∷ p) = therapyRecorded p
+therapyRecorded (therapy d ∷ p) = true
+therapyRecorded (death d ∷ p) = therapyRecorded p
 
 pub record Judged : Type 0 where
   pub day : ℕ
@@ -53,6 +53,6 @@ progression b p = firstPD (judged b p)
 abbrev pub counting : Baseline → Past → List Judged
 counting b [] = []
 counting b (baseline x ∷ p) = counting b p
-counting b (visit d v ∷ p) = pick (either (treated p) (isRecorded (progression b p))) (counting b p) (judge b p d v ∷ counting b p)
+counting b (visit d v ∷ p) = pick (either (therapyRecorded p) (isRecorded (progression b p))) (counting b p) (judge b p d v ∷ counting b p)
 counting b (therapy d ∷ p) = counting b p
 counting b (death d ∷ p) = counting b p

@@ -9,10 +9,10 @@ use borrow.Author.Tests.{le-leb, lt-leb}
 use Rattle.dates.specs.declared.StudyDay.{StudyDay}
 use Rattle.endpoints.specs.declared.MaybeDay.{MaybeDay}
 use Rattle.endpoints.specs.declared.MaybeDay.the-variants as M
-use Rattle.endpoints.specs.declared.EndStatus.the-variants as E
+use Rattle.endpoints.specs.declared.PfsStatus.the-variants as E
 use Rattle.endpoints.specs.declared.PfsResult.{PfsResult}
 use Rattle.endpoints.specs.declared.BestResponse.{BestResponse}
-use Rattle.endpoints.specs.Values.{none, on, orDay1, lasted, dayValue, endWord, pfsValues, bestWord}
+use Rattle.endpoints.specs.Values.{none, on, orDay1, forDays, dayValue, wordOfStatus, pfsValues, bestWord}
 use Rattle.endpoints.specs.Pfs.{gapLimit, twoMissed, earlyDeath, eventUnlessMissed, pfsOf}
 use Rattle.endpoints.specs.Best.{isResponse, durationOf}
 
@@ -74,7 +74,7 @@ pub by-neither : (g t : MaybeDay) (v : StudyDay) (e : MaybeDay) (day : StudyDay)
     pfsValues (record { status = E.Censored; day = day }) ≡ pfsOf (dayValue g) (dayValue t) (v .0) (dayValue e)
 by-neither g t v e day q p h = rw (q, p, ← h)
 
-pub response-lasted : (w : BestResponse) (f : MaybeDay) (p : PfsResult) (x : Bool) (start : StudyDay) (n : ℕ) → f ≡ M.On start →
+pub response-forDays : (w : BestResponse) (f : MaybeDay) (p : PfsResult) (x : Bool) (start : StudyDay) (n : ℕ) → f ≡ M.On start →
     x ≡ isResponse (bestWord w) → x ≡ true → n ≡ p .day .0 - start .0 →
-    lasted (endWord (p .status)) (n + 1) ≡ durationOf (bestWord w) (dayValue f) (pfsValues p)
-response-lasted w f p x start n q r h m = rw (q, ← r, h, ← m)
+    forDays (wordOfStatus (p .status)) (n + 1) ≡ durationOf (bestWord w) (dayValue f) (pfsValues p)
+response-forDays w f p x start n q r h m = rw (q, ← r, h, ← m)

@@ -49,7 +49,7 @@ pub fn duration_of(best: BestResponse, first: MaybeDay, pfs: PfsResult) -> Durat
         MaybeDay::Absent => DurationAnswer::Absent,
         MaybeDay::On(start) => {
             if is_response(best) {
-                return DurationAnswer::Lasted(DurationResult {
+                return DurationAnswer::ForDays(DurationResult {
                     status: status,
                     days: days_between(start, pfs.day) as u64 + 1,
                 });

@@ -3,9 +3,9 @@ use super::days::days_between;
 use super::days::or_day_1;
 use super::gap::two_missed;
 use dates::StudyDay;
-use endpoints::EndStatus;
 use endpoints::MaybeDay;
 use endpoints::PfsResult;
+use endpoints::PfsStatus;
 ghost use mathlib.Core.Path.{_≡_};
 ghost use Rattle.endpoints.specs.Values.{dayValue, pfsValues, none, on};
 ghost use Rattle.endpoints.specs.Pfs.{eventUnlessMissed, pfsOf};
@@ -18,12 +18,12 @@ fn event_unless_missed(day: StudyDay, previous: StudyDay, evaluable: MaybeDay) -
 {
     if two_missed(day, previous) {
         return PfsResult {
-            status: EndStatus::Censored,
+            status: PfsStatus::Censored,
             day: or_day_1(evaluable),
         };
     }
     PfsResult {
-        status: EndStatus::Event,
+        status: PfsStatus::Event,
         day: day,
     }
 }
@@ -36,12 +36,12 @@ fn pfs_of_death(day: StudyDay, previous: StudyDay, evaluable: MaybeDay) -> PfsRe
         MaybeDay::Absent => {
             if days_between(StudyDay(1), day) <= EARLY_DEATH {
                 return PfsResult {
-                    status: EndStatus::Event,
+                    status: PfsStatus::Event,
                     day: day,
                 };
             }
             PfsResult {
-                status: EndStatus::Censored,
+                status: PfsStatus::Censored,
                 day: StudyDay(1),
             }
         }
@@ -62,7 +62,7 @@ pub fn pfs_of(
         MaybeDay::Absent => match death {
             MaybeDay::On(day) => pfs_of_death(day, previous, evaluable),
             MaybeDay::Absent => PfsResult {
-                status: EndStatus::Censored,
+                status: PfsStatus::Censored,
                 day: or_day_1(evaluable),
             },
         },
