@@ -8,7 +8,7 @@ use Rattle.criteria.specs.Words.{CR, PR, SD, PD, NE}
 use Rattle.endpoints.specs.Values.{EVENT, CENSORED, event, censored, forDays}
 use Rattle.endpoints.specs.StudyRecords.{Baseline, therapy, death}
 use Rattle.endpoints.specs.Lawful.{Past}
-use Rattle.endpoints.specs.Examples.{oneTarget, withNode, noTargets, missing, visitOn, measuring, unmeasured, Said, is, pfsIs, bestIs, durationIs, targetPD, pfsOfList, bestOfList, durationOfList, pfsSettledOfList, bestSettledOfList, durationSettledOfList, Example, example}
+use Rattle.endpoints.specs.Examples.{oneTarget, withNode, noTargets, missing, visitOn, measuring, unmeasured, Said, is, pfsIs, bestIs, durationIs, pfsOfList, bestOfList, durationOfList, pfsSettledOfList, bestSettledOfList, durationSettledOfList, Example, example}
 
 -- the printed example
 abbrev pub printed : (Baseline → Past → Said) → Said → Example
@@ -51,6 +51,8 @@ further =
     -- a progression before a death, and one after a therapy
     ∷ example oneTarget (measuring 43 90 ∷ measuring 85 200 ∷ death 90 ∷ []) (SD ∷ PD ∷ []) pfsOfList (pfsIs (event 85))
     ∷ example oneTarget (therapy 20 ∷ measuring 43 200 ∷ []) (PD ∷ []) bestOfList (bestIs NE)
+    -- a therapy on the day of a visit is recorded after it
+    ∷ example oneTarget (measuring 43 60 ∷ therapy 43 ∷ measuring 85 60 ∷ []) (PR ∷ PR ∷ []) bestOfList (bestIs SD)
     -- a visit after the progression changes neither PFS nor best response
     ∷ example oneTarget (measuring 43 90 ∷ measuring 85 200 ∷ measuring 127 0 ∷ measuring 169 0 ∷ []) (SD ∷ PD ∷ CR ∷ CR ∷ []) pfsOfList
     (pfsIs (event 85))
@@ -58,7 +60,8 @@ further =
     (bestIs SD)
     -- a visit moves the nadir, later therapy or progression notwithstanding
     ∷ example oneTarget (measuring 43 50 ∷ therapy 50 ∷ measuring 85 60 ∷ []) (PR ∷ PD ∷ []) pfsOfList (pfsIs (event 85))
-    ∷ example oneTarget (measuring 43 90 ∷ measuring 85 200 ∷ measuring 127 50 ∷ measuring 169 60 ∷ []) (SD ∷ PD ∷ PR ∷ PD ∷ []) targetPD (is true)
+    ∷ example oneTarget (measuring 43 90 ∷ measuring 85 200 ∷ measuring 127 50 ∷ measuring 169 60 ∷ []) (SD ∷ PD ∷ PR ∷ PD ∷ []) pfsOfList
+    (pfsIs (event 85))
     -- a progression that the gap censors still counts for best response
     ∷ example oneTarget (unmeasured 43 ∷ measuring 142 200 ∷ []) (NE ∷ PD ∷ []) bestOfList (bestIs PD)
     -- CR and NE may stand between two CR visits; SD may not, and may stand between two responses
