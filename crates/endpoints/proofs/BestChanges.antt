@@ -13,7 +13,7 @@ use Rattle.criteria.specs.Inputs.{Visit}
 use Rattle.endpoints.specs.Values.{Day, none, on, isRecorded, _orElse_, orDay1, Pfs, PfsWord, Duration, noDuration, forDays, exists}
 use Rattle.endpoints.specs.StudyRecords.{Baseline, baseline, visit, therapy, death, fieldsPass}
 use Rattle.endpoints.specs.Lawful.{Past, latestDay, died, lawfulBehind}
-use Rattle.endpoints.specs.Visits.{Judged, therapyRecorded, judge, firstPD, progression, counting}
+use Rattle.endpoints.specs.Visits.{Judged, therapyRecorded, judge, firstPD, progression, countingClosed, counting}
 use Rattle.endpoints.specs.Pfs.{pfs}
 use Rattle.endpoints.specs.Best.{isCR, isResponse, confirmDays, completeBefore, confirmedCR, responseBefore, confirmedResponse, stable, bestOf, best, firstResponse, durationOf, duration}
 use Rattle.endpoints.proofs.Behind.{recorded-on, absent, from-day-1, Unchanged}
@@ -85,17 +85,17 @@ module _ (b : Baseline) (p : Past) (alive : died p ≡ false) (passes : fieldsPa
   confirmedOn = suc (latestDay p) + confirmDays
 
   abbrev twoMore : Past
-  twoMore = visit confirmedOn (completeVisit b) ∷ oneMore b p alive passes lawfully
+  twoMore = visit confirmedOn (completeVisit b) ∷ oneMore b p
 
   two-more-lawful : lawfulBehind b twoMore ≡ true
   two-more-lawful =
-      complete-lawful b (oneMore b p alive passes lawfully) confirmedOn (one-more-lawful b p alive passes lawfully) alive (omega (arith, from-day-1 p))
+      complete-lawful b (oneMore b p) confirmedOn (one-more-lawful b p alive passes lawfully) alive (omega (arith, from-day-1 p))
 
   two-more-CR : b .assessed ≡ true → therapyRecorded p ≡ false → progression b p ≡ none → best b twoMore ≡ CR
   two-more-CR assessed untreated none-yet =
       confirmed-best b twoMore
       (rw (
-        complete-judged b (oneMore b p alive passes lawfully) confirmedOn passes assessed,
+        complete-judged b (oneMore b p) confirmedOn passes assessed,
         complete-judged b p (suc (latestDay p)) passes assessed,
         untreated,
         none-yet,
@@ -123,7 +123,7 @@ counting-until : (b : Baseline) (d : ℕ) (p : Past) → latestDay p ≤ d → U
 unfolding judge
 counting-until b d [] h = tt
 counting-until b d (baseline x ∷ p) h = counting-until b d p (omega arith)
-counting-until b d (visit t v ∷ p) h = go (either (therapyRecorded p) (isRecorded (progression b p))) (counting-until b d p (omega arith))
+counting-until b d (visit t v ∷ p) h = go (countingClosed b p) (counting-until b d p (omega arith))
   where
     go : (x : Bool) → Until d (counting b p) → Until d (pick x (counting b p) (judge b p t v ∷ counting b p))
     go true u = u
@@ -152,7 +152,7 @@ days-from b p first q e = rw (q, sym (duration-exists b p) ∙ e)
 
 first-keeps : (b : Baseline) (p : Past) (d first : ℕ) (v : Visit) → firstResponse (counting b p) ≡ on first →
     firstResponse (counting b (visit d v ∷ p)) ≡ on first
-first-keeps b p d first v q = go (either (therapyRecorded p) (isRecorded (progression b p))) (judge b p d v)
+first-keeps b p d first v q = go (countingClosed b p) (judge b p d v)
   where
     go : (x : Bool) (j : Judged) → firstResponse (pick x (counting b p) (j ∷ counting b p)) ≡ on first
     go true j = q
@@ -164,7 +164,7 @@ module _ (b : Baseline) (p : Past) (alive : died p ≡ false) (passes : fieldsPa
   duration-grows assessed e there lasts =
       let none-yet = absent (progression b p) e in
       let day = suc (latestDay p) in
-      let more = oneMore b p alive passes lawfully in
+      let more = oneMore b p in
       let first = recorded-on (firstResponse (counting b p)) (first-response b p (sym (duration-exists b p) ∙ there)) in
       let same = lasts (visit day (completeVisit b) ∷ []) (rw (complete-passes b day)) (one-more-lawful b p alive passes lawfully) in
       let now = days-from b p (first .0) (first .1) there in

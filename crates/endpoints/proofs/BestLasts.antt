@@ -11,7 +11,7 @@ use Rattle.criteria.specs.Words.{Word, CR, NE}
 use Rattle.endpoints.specs.Values.{Day, none, on, isRecorded, _orElse_}
 use Rattle.endpoints.specs.StudyRecords.{Baseline, StudyRecord, baseline, visit, therapy, death}
 use Rattle.endpoints.specs.Lawful.{Past, died}
-use Rattle.endpoints.specs.Visits.{Judged, therapyRecorded, judge, firstPD, progression, counting}
+use Rattle.endpoints.specs.Visits.{Judged, therapyRecorded, judge, firstPD, progression, countingClosed, counting}
 use Rattle.endpoints.specs.Pfs.{pfs}
 use Rattle.endpoints.specs.Best.{isCR, isResponse, completeBefore, confirmedCR, confirmedResponse, stable, bestOf, best, firstResponse, durationOf, duration}
 use Rattle.endpoints.proofs.Behind.{recorded-keeps, Next, lasts-by, Unchanged}
@@ -20,7 +20,7 @@ use Rattle.endpoints.proofs.PfsLasts.{PfsOver, progressed, dead, late, 
 
 -- counting visits: none is to come, or none that is to come is evaluable
 pub data CountingOver (b : Baseline) (p : Past) : Type 0 where
-  closed : either (therapyRecorded p) (isRecorded (progression b p)) ≡ true → CountingOver b p
+  closed : countingClosed b p ≡ true → CountingOver b p
   afterDeath : died p ≡ true → CountingOver b p
   missing : b .assessed ≡ false → CountingOver b p
 
@@ -29,8 +29,8 @@ orElse-none none = refl
 orElse-none (on d) = refl
 
 module _ (b : Baseline) (p : Past) where
-  counting-closed : (r : StudyRecord) → either (therapyRecorded p) (isRecorded (progression b p)) ≡ true →
-      either (therapyRecorded (r ∷ p)) (isRecorded (progression b (r ∷ p))) ≡ true
+  counting-closed : (r : StudyRecord) → countingClosed b p ≡ true →
+      countingClosed b (r ∷ p) ≡ true
   counting-closed (baseline x) e = e
   counting-closed (visit d v) e = go (therapyRecorded p) (progression b p) _ e
     where
@@ -59,7 +59,7 @@ module _ (b : Baseline) (p : Past) where
   counting-same (visit d v) n (closed e) = (rw e, rw e)
   counting-same (visit d v) n (afterDeath e) = absurd (never (sym e ∙ n .alive))
   counting-same (visit d v) n (missing m) =
-      let s = one-more-NE (either (therapyRecorded p) (isRecorded (progression b p))) (judge b p d v) (missing-answer b p d v m) (counting b p) in
+      let s = one-more-NE (countingClosed b p) (judge b p d v) (missing-answer b p d v m) (counting b p) in
       (rw (s .0, s .1, s .2, s .3), s .4)
   counting-same (therapy d) n q = (refl, refl)
   counting-same (death d) n q = (refl, refl)
@@ -75,7 +75,7 @@ missing-counting : (b : Baseline) (p : Past) → b .assessed ≡ false →
 missing-counting b [] m = (refl, refl)
 missing-counting b (baseline x ∷ p) m = missing-counting b p m
 missing-counting b (visit d v ∷ p) m =
-    let s = one-more-NE b p (either (therapyRecorded p) (isRecorded (progression b p))) (judge b p d v) (missing-answer b p d v m) (counting b p) in
+    let s = one-more-NE b p (countingClosed b p) (judge b p d v) (missing-answer b p d v m) (counting b p) in
     let before = missing-counting b p m in
     (s .0 ∙ before .0, s .1 ∙ before .1)
 missing-counting b (therapy d ∷ p) m = missing-counting b p m
@@ -103,7 +103,7 @@ either-right x y e = rw e (either-with-true x)
 module _ (b : Baseline) (p : Past) where
   confirmed-keeps : (r : StudyRecord) → confirmedCR (counting b p) ≡ true → confirmedCR (counting b (r ∷ p)) ≡ true
   confirmed-keeps (baseline x) e = e
-  confirmed-keeps (visit d v) e = go (either (therapyRecorded p) (isRecorded (progression b p))) (judge b p d v)
+  confirmed-keeps (visit d v) e = go (countingClosed b p) (judge b p d v)
     where
       go : (t : Bool) (j : Judged) → confirmedCR (pick t (counting b p) (j ∷ counting b p)) ≡ true
       go true j = e

@@ -50,20 +50,20 @@ pub censored-until : (b : Baseline) (p : Past) → censoredOn b p ≤ latestDay 
 unfolding censoredOn
 censored-until b p = evaluable-until (latestDay p) (judged b p) (from-day-1 p) (judged-until b (latestDay p) p (omega arith))
 
+-- a list with a CR visit on the day after the latest
+abbrev pub oneMore : Baseline → Past → Past
+oneMore b p = visit (suc (latestDay p)) (completeVisit b) ∷ p
+
 module _ (b : Baseline) (p : Past) (alive : died p ≡ false) where
   pub open-pfs : progression b p ≡ none → pfs b p ≡ censored (censoredOn b p)
   unfolding pfs censoredOn
   open-pfs e = rw (e, absent (deathDay p) alive)
 
   module _ (passes : fieldsPass (baseline b) ≡ true) (lawfully : lawfulBehind b p ≡ true) where
-    -- a CR visit on the day after the latest is the last evaluable one
-    abbrev pub oneMore : Past
-    oneMore = visit (suc (latestDay p)) (completeVisit b) ∷ p
-
-    pub one-more-lawful : lawfulBehind b oneMore ≡ true
+    pub one-more-lawful : lawfulBehind b (oneMore b p) ≡ true
     one-more-lawful = complete-lawful b p (suc (latestDay p)) lawfully alive (omega arith)
 
-    pub one-more-pfs : b .assessed ≡ true → progression b p ≡ none → pfs b oneMore ≡ censored (suc (latestDay p))
+    pub one-more-pfs : b .assessed ≡ true → progression b p ≡ none → pfs b (oneMore b p) ≡ censored (suc (latestDay p))
     unfolding pfs
     one-more-pfs assessed e = rw (complete-judged b p (suc (latestDay p)) passes assessed, e, absent (deathDay p) alive)
 

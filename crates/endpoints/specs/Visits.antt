@@ -49,10 +49,14 @@ firstPD (j ∷ js) = firstPD js orElse (pick (isPD (j .answer)) (on (j .day)) no
 abbrev pub progression : Baseline → Past → Day
 progression b p = firstPD (judged b p)
 
+-- no further visit counts: a therapy or a progression is recorded
+abbrev pub countingClosed : Baseline → Past → Bool
+countingClosed b p = either (therapyRecorded p) (isRecorded (progression b p))
+
 -- counting visits are those recorded before the first therapy, up to and with progression
 abbrev pub counting : Baseline → Past → List Judged
 counting b [] = []
 counting b (baseline x ∷ p) = counting b p
-counting b (visit d v ∷ p) = pick (either (therapyRecorded p) (isRecorded (progression b p))) (counting b p) (judge b p d v ∷ counting b p)
+counting b (visit d v ∷ p) = pick (countingClosed b p) (counting b p) (judge b p d v ∷ counting b p)
 counting b (therapy d ∷ p) = counting b p
 counting b (death d ∷ p) = counting b p
