@@ -74,7 +74,7 @@ pub by-neither : (g t : MaybeDay) (v : StudyDay) (e : MaybeDay) (day : StudyDay)
     pfsValues (record { status = E.Censored; day = day }) ≡ pfsOf (dayValue g) (dayValue t) (v .0) (dayValue e)
 by-neither g t v e day q p h = rw (q, p, ← h)
 
-pub response-forDays : (w : BestResponse) (f : MaybeDay) (p : PfsResult) (x : Bool) (start : StudyDay) (n : ℕ) → f ≡ M.On start →
+pub response-days : (w : BestResponse) (f : MaybeDay) (p : PfsResult) (x : Bool) (start : StudyDay) (n : ℕ) → f ≡ M.On start →
     x ≡ isResponse (bestWord w) → x ≡ true → n ≡ p .day .0 - start .0 →
     forDays (wordOfStatus (p .status)) (n + 1) ≡ durationOf (bestWord w) (dayValue f) (pfsValues p)
-response-forDays w f p x start n q r h m = rw (q, ← r, h, ← m)
+response-days w f p x start n q r h m = rw (q, ← r, h, ← m)

@@ -1,7 +1,7 @@
 -- `results::best::duration_of` meets its contract.
 -- Assumes nothing.
 use borrow.Author.Needs.{needs}
-use Rattle.results.proofs.Parts.{response-forDays}
+use Rattle.results.proofs.Parts.{response-days}
 use Rattle.results.proofs.best.duration_of.Statement.{statement}
 use Rattle.results.proofs.best.duration_of.Tie as tie
 
@@ -15,6 +15,6 @@ duration-of-spec =
     (λ c κs. search needs)
     (λ c. search needs)
     (λ c. search needs)
-    (λ c. search response-forDays)
+    (λ c. search response-days)
     (λ c. search needs)
     (λ c. search needs))
