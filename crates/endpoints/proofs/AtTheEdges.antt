@@ -1,4 +1,4 @@
--- The examples are computed by the definitions.
+-- The examples are computed by the definitions. By its name this file is checked first, so that a wrong definition is refused at an example.
 -- Assumes nothing.
 use mathlib.Core.Path.{refl}
 use Rattle.dates.specs.Calendar.{leapYear, daysInMonth, dateExists, daysOfYears, daysOfMonths, dayNumber}
