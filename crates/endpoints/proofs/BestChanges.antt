@@ -13,37 +13,13 @@ use Rattle.criteria.specs.Inputs.{Visit}
 use Rattle.endpoints.specs.Values.{Day, none, on, isRecorded, _orElse_, orDay1, Pfs, PfsWord, Duration, noDuration, forDays, exists}
 use Rattle.endpoints.specs.StudyRecords.{Baseline, baseline, visit, therapy, death, fieldsPass}
 use Rattle.endpoints.specs.Lawful.{Past, latestDay, died, lawfulBehind}
-use Rattle.endpoints.specs.Visits.{Judged, therapyRecorded, judge, firstPD, progression, countingClosed, counting}
+use Rattle.endpoints.specs.Visits.{Judged, therapyRecorded, judge, progression, countingClosed, counting}
 use Rattle.endpoints.specs.Pfs.{pfs}
-use Rattle.endpoints.specs.Best.{isCR, isResponse, confirmDays, completeBefore, confirmedCR, responseBefore, confirmedResponse, stable, bestOf, best, firstResponse, durationOf, duration}
+use Rattle.endpoints.specs.Best.{isCR, isResponse, confirmDays, completeBefore, confirmedCR, responseBefore, confirmedResponse, best, firstResponse, durationOf, duration}
 use Rattle.endpoints.proofs.Behind.{recorded-on, absent, from-day-1, Unchanged}
-use Rattle.endpoints.proofs.BestLasts.{confirmed-best}
+use Rattle.endpoints.proofs.BestLasts.{words-of-best, confirmed-best}
 use Rattle.endpoints.proofs.CompleteVisit.{completeVisit, complete-judged, complete-passes, complete-lawful}
 use Rattle.endpoints.proofs.PfsChanges.{Until, censored-until, open-pfs, oneMore, one-more-lawful, one-more-pfs}
-
--- best response by its parts
-pub best-CR : (b : Baseline) (p : Past) → isCR (best b p) ≡ confirmedCR (counting b p)
-unfolding best
-best-CR b p = go (confirmedCR (counting b p)) (confirmedResponse (counting b p)) (stable (counting b p)) (isRecorded (firstPD (counting b p)))
-  where
-    go : (cr pr sd pd : Bool) → isCR (bestOf cr pr sd pd) ≡ cr
-    go true pr sd pd = refl
-    go false true sd pd = refl
-    go false false true pd = refl
-    go false false false true = refl
-    go false false false false = refl
-
-best-response : (b : Baseline) (p : Past) → isResponse (best b p) ≡ either (confirmedCR (counting b p)) (confirmedResponse (counting b p))
-unfolding best
-best-response b p =
-    go (confirmedCR (counting b p)) (confirmedResponse (counting b p)) (stable (counting b p)) (isRecorded (firstPD (counting b p)))
-  where
-    go : (cr pr sd pd : Bool) → isResponse (bestOf cr pr sd pd) ≡ either cr pr
-    go true pr sd pd = refl
-    go false true sd pd = refl
-    go false false true pd = refl
-    go false false false true = refl
-    go false false false false = refl
 
 -- where best is CR or PR there is a first response
 first-of-confirmed : (c : List Judged) → either (confirmedCR c) (confirmedResponse c) ≡ true → isRecorded (firstResponse c) ≡ true
@@ -63,7 +39,7 @@ first-of-confirmed (j ∷ c) e = go (j .answer) (completeBefore (j .day) c) (res
     go NN x y none ih h = ih h
 
 pub first-response : (b : Baseline) (p : Past) → isResponse (best b p) ≡ true → isRecorded (firstResponse (counting b p)) ≡ true
-first-response b p e = first-of-confirmed (counting b p) (sym (best-response b p) ∙ e)
+first-response b p e = first-of-confirmed (counting b p) (sym (words-of-best b p .1) ∙ e)
 
 pub duration-exists : (b : Baseline) (p : Past) → exists (duration b p) ≡ isResponse (best b p)
 unfolding duration

@@ -18,6 +18,19 @@ use Rattle.endpoints.proofs.Behind.{recorded-keeps, Next, lasts-by, Unc
 use Rattle.endpoints.proofs.Missing.{missing-answer}
 use Rattle.endpoints.proofs.PfsLasts.{PfsOver, progressed, dead, late, pfs-keeps}
 
+-- when best response is CR, and when it is CR or PR
+pub words-of-best : (b : Baseline) (p : Past) →
+    (isCR (best b p) ≡ confirmedCR (counting b p)) × (isResponse (best b p) ≡ either (confirmedCR (counting b p)) (confirmedResponse (counting b p)))
+unfolding best
+words-of-best b p = go (confirmedCR (counting b p)) (confirmedResponse (counting b p)) (stable (counting b p)) (isRecorded (firstPD (counting b p)))
+  where
+    go : (cr pr sd pd : Bool) → (isCR (bestOf cr pr sd pd) ≡ cr) × (isResponse (bestOf cr pr sd pd) ≡ either cr pr)
+    go true pr sd pd = (refl, refl)
+    go false true sd pd = (refl, refl)
+    go false false true pd = (refl, refl)
+    go false false false true = (refl, refl)
+    go false false false false = (refl, refl)
+
 -- counting visits: none is to come, or none that is to come is evaluable
 pub data CountingOver (b : Baseline) (p : Past) : Type 0 where
   closed : countingClosed b p ≡ true → CountingOver b p
@@ -82,15 +95,9 @@ missing-counting b (therapy d ∷ p) m = missing-counting b p m
 missing-counting b (death d ∷ p) m = missing-counting b p m
 
 pub missing-no-response : (b : Baseline) (p : Past) → b .assessed ≡ false → isResponse (best b p) ≡ false
-unfolding best
 missing-no-response b p m =
     let c = missing-counting b p m in
-    rw (c .0, c .1) (go (stable (counting b p)) (isRecorded (firstPD (counting b p))))
-  where
-    go : (sd pd : Bool) → isResponse (bestOf false false sd pd) ≡ false
-    go true pd = refl
-    go false true = refl
-    go false false = refl
+    words-of-best b p .1 ∙ rw (c .0, c .1)
 
 -- best response: that, or it is CR
 pub data BestOver (b : Baseline) (p : Past) : Type 0 where

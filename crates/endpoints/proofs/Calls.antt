@@ -1,9 +1,9 @@
 -- The records that a list of calls accepts are a lawful list, and the marks of its outcome are exact.
 -- Assumes nothing.
 use mathlib.Core.Logic.{_↔_}
-use mathlib.Core.Path.{_≡_, refl, sym, ap}
+use mathlib.Core.Path.{_≡_, refl, sym}
 use mathlib.Core.Bool.{Bool, true, false}
-use mathlib.Core.List.{List, [], _∷_, _++_, map, reverse, reverse-append}
+use mathlib.Core.List.{List, [], _∷_, _++_, map, map-append, reverse, reverse-append}
 use Prim.Native.Nat.{ℕ}
 use native.Mathlib.Omega.{arith}
 use lib.Dec.{eqb}
@@ -32,10 +32,6 @@ one-more-in-order (visit d v) ss r l = absurd (never (sym l))
 one-more-in-order (therapy d) ss r l = absurd (never (sym l))
 one-more-in-order (death d) ss r l = absurd (never (sym l))
 
-map-behind : {A B : Type 0} (f : A → B) (xs : List A) (x : A) → map f (xs ++ (x ∷ [])) ≡ map f xs ++ (f x ∷ [])
-map-behind f [] x = refl
-map-behind f (y ∷ xs) x = ap (λ (l : List _). f y ∷ l) (map-behind f xs x)
-
 -- no refusal: none of the record's own, and none after them
 none-of-both : (r : Record) (n : ℕ) → (afterOwn r n ≡ 0) ↔ ((refusalOf r ≡ 0) × (n ≡ 0))
 none-of-both r n = go (eqb (refusalOf r) 0) refl
@@ -51,7 +47,7 @@ one-more-accepted b rs r l =
     let on-day = onStudyDay (dateOf (b .entry)) in
     let own = none-of-both r (refusalAfter (onStudyDays (b ∷ rs)) (on-day r)) in
     let more = one-more-in-order (on-day b) (map on-day rs) (on-day r) l in
-    rw (map-behind on-day rs r) (λ e. (own .0 e .0, more .0 (own .0 e .1)), λ e. own .1 (e .0, more .1 (e .1)))
+    rw (map-append on-day rs (r ∷ [])) (λ e. (own .0 e .0, more .0 (own .0 e .1)), λ e. own .1 (e .0, more .1 (e .1)))
 
 accepted-from : (b : Record) (rs : List Record) (cs : List Call) → lawful (onStudyDays (b ∷ rs)) ≡ true →
     lawful (onStudyDays (acceptedAfter (b ∷ rs) cs)) ≡ true

@@ -18,9 +18,9 @@ use Rattle.endpoints.specs.Settled.{settledFrom, pfsSettledBy, bestSettl
 use Rattle.endpoints.specs.Lasting.{EveryMarkExact}
 use Rattle.endpoints.proofs.Behind.{Unchanged}
 use Rattle.endpoints.proofs.PfsLasts.{PfsOver, progressed, dead, late, pfs-lasts}
-use Rattle.endpoints.proofs.BestLasts.{closed, afterDeath, missing, BestOver, counted, complete, confirmed-best, best-lasts, ended, without, duration-lasts, missing-no-response}
+use Rattle.endpoints.proofs.BestLasts.{closed, afterDeath, missing, BestOver, counted, complete, words-of-best, confirmed-best, best-lasts, ended, without, duration-lasts, missing-no-response}
 use Rattle.endpoints.proofs.PfsChanges.{pfs-changes, pfs-changes-missing}
-use Rattle.endpoints.proofs.BestChanges.{best-CR, duration-exists, best-changes, duration-begins, duration-grows}
+use Rattle.endpoints.proofs.BestChanges.{duration-exists, best-changes, duration-begins, duration-grows}
 
 holds : {m : Bool} {A : Type 0} → m ≡ true → A → (m ≡ true) ↔ A
 holds e a = (λ t. a, λ x. e)
@@ -73,7 +73,7 @@ module _ (b : Baseline) (p : Past) {A : Type 0} where
       go false eg false et true ed a ea c ec = holds (is false false true a eg et ed ea) (over (counted (afterDeath ed)))
       go false eg false et false ed false ea c ec = holds (is false false false false eg et ed ea) (over (counted (missing ea)))
       go false eg false et false ed true ea true ec =
-          holds (is false false false true eg et ed ea ∙ ec) (over (complete (sym (best-CR b p) ∙ ec)))
+          holds (is false false false true eg et ed ea ∙ ec) (over (complete (sym (words-of-best b p .0) ∙ ec)))
       go false eg false et false ed true ea false ec =
           fails (is false false false true eg et ed ea ∙ ec) (open-still ed ea et eg ec)
 

@@ -3,7 +3,7 @@
 use mathlib.Core.Path.{_≡_, refl, sym, ap, _∙_}
 use mathlib.Core.Bool.{true}
 use mathlib.Core.List.{List, [], _∷_, _++_, reverse, reverse-append, reverse-reverse}
-use mathlib.Core.Logic.{_↔_}
+use mathlib.Core.Logic.{_↔_, Iff·trans}
 use Rattle.laws.proofs.Tests.{both-true}
 use Rattle.endpoints.specs.Values.{Outcome}
 use Rattle.endpoints.specs.StudyRecords.{Baseline, StudyRecord, fieldsPass, allPass}
@@ -36,17 +36,14 @@ lasts-in-order part b rs = (
     turned : (run : Past) → reverse (rs ++ reverse run) ≡ run ++ reverse rs
     turned run = reverse-append rs (reverse run) ∙ ap (λ (x : Past). x ++ reverse rs) (reverse-reverse run)
 
-trans-iff : {A B C : Type 0} → A ↔ B → B ↔ C → A ↔ C
-trans-iff f g = (λ a. g .0 (f .0 a), λ c. f .1 (g .1 c))
-
 pub every-mark-exact-in-order : EveryMarkExactInOrder
 every-mark-exact-in-order =
     record {
       exact = λ b rs passes lawfully.
           let marks = every-mark-exact .exact b (reverse rs) passes lawfully in
           record {
-            pfs = trans-iff (marks .pfs) (lasts-in-order (λ (o : Outcome). o .pfs) b rs);
-            best = trans-iff (marks .best) (lasts-in-order (λ (o : Outcome). o .best) b rs);
-            duration = trans-iff (marks .duration) (lasts-in-order (λ (o : Outcome). o .duration) b rs);
+            pfs = Iff·trans (marks .pfs) (lasts-in-order (λ (o : Outcome). o .pfs) b rs);
+            best = Iff·trans (marks .best) (lasts-in-order (λ (o : Outcome). o .best) b rs);
+            duration = Iff·trans (marks .duration) (lasts-in-order (λ (o : Outcome). o .duration) b rs);
           };
     }

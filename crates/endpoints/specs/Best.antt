@@ -99,7 +99,7 @@ abbrev pub firstResponse : List Judged → Day
 firstResponse [] = none
 firstResponse (j ∷ js) = firstResponse js orElse (pick (isResponse (j .answer)) (on (j .day)) none)
 
--- exists when best is CR or PR: PFS day − first counting CR or PR day + 1, with PFS's status; in a lawful list PFS does not end before that day
+-- exists when best is CR or PR: PFS day − first counting CR or PR day + 1, with PFS's status; `-` stops at 0
 abbrev pub durationOf : Word → Day → Pfs → Duration
 durationOf best none pfs = noDuration
 durationOf best (on first) pfs = pick (isResponse best) (forDays (pfs .status) (pfs .day - first + 1)) noDuration

@@ -13,6 +13,7 @@ use Rattle.records.specs.Refusals.{mostTargets}
 use Rattle.criteria.specs.Words.{Word, CR, PR, SD, PD, NE}
 use Rattle.criteria.specs.Overall.{isPD}
 use Rattle.criteria.specs.Visits.{visitTarget}
+use Rattle.criteria.specs.Examples.{marked}
 use Rattle.endpoints.specs.Values.{Pfs, event, censored, Duration, noDuration}
 use Rattle.endpoints.specs.StudyRecords.{Baseline, StudyRecord, baseline, visit, therapy, death, disease, allPass}
 use Rattle.endpoints.specs.Lawful.{Past, lawful}
@@ -53,7 +54,7 @@ visitOn d s new sizes =
     (record {
       status = s;
       newLesion = new;
-      measured = filled false mostTargets (map (λ (n : ℕ). true) sizes);
+      measured = filled false mostTargets (marked sizes);
       sizes = filled 0 mostTargets sizes;
     })
 

@@ -41,7 +41,7 @@ pub record MarksExactInOrder (b : Baseline) (rs : List StudyRecord) : Type 0 whe
 pub record EveryMarkExactInOrder : Type 0 where
   pub exact : (b : Baseline) (rs : List StudyRecord) → fieldsPass (baseline b) ≡ true → lawful (baseline b ∷ rs) ≡ true → MarksExactInOrder b rs
 
--- the marks of a list, baseline first, are exact; of a list that opens otherwise nothing is claimed
+-- the list opens with a baseline, and its marks are exact
 abbrev pub MarksExactOn : List StudyRecord → Type 0
 MarksExactOn [] = ⊥
 MarksExactOn (baseline b ∷ rs) = MarksExactInOrder b rs

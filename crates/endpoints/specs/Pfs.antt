@@ -29,11 +29,11 @@ lastEvaluable (j ∷ js) = pick (evaluable (j .answer)) (on (j .day)) (lastEvalu
 unfoldable pub gapLimit : ℕ → ℕ
 gapLimit v = pick (leb v 1) 91 (pick (leb v 119) 98 (pick (leb v 161) 112 126))
 
--- two visits are missed when event day − v exceeds the limit; in a lawful list v is not after the event
+-- two visits are missed when event day − v exceeds the limit; `-` stops at 0, so a v after the event would be no gap
 abbrev pub twoMissed : ℕ → ℕ → Bool
 twoMissed day v = ltb (gapLimit v) (day - v)
 
--- the early-death limit: death day − 1 is at most this; there is no death before day 1
+-- the early-death limit: death day − 1 is at most this
 unfoldable pub earlyDeath : ℕ
 earlyDeath = 91
 
