@@ -9,7 +9,7 @@ use Rattle.criteria.specs.Targets.{allGone, grown, shrunk, targetAnswer}
 use Rattle.criteria.specs.Nadir.{nadirOf}
 use Rattle.criteria.specs.Overall.{overallAnswer}
 use Rattle.endpoints.specs.StudyRecords.{entryPasses}
-use Rattle.endpoints.specs.Lawful.{fits}
+use Rattle.endpoints.specs.Lawful.{measuredBeyond, fitsBy, fits}
 use Rattle.endpoints.specs.Visits.{judge}
 use Rattle.endpoints.specs.Pfs.{gapLimit, earlyDeath, pfs}
 use Rattle.endpoints.specs.Best.{best, duration}
@@ -20,11 +20,11 @@ use Rattle.endpoints.specs.FurtherExamples.{further}
 use Rattle.endpoints.specs.AddingExamples.{Unlawful, OnStudyDays, FirstRefusals}
 
 pub examples-hold : Hold starred × Hold further
-unfolding starred further entryPasses wrongSize largeMeasured setBeyond sizedUnmeasured withoutDisease outsideLimits notZero fits measuredSum baselineSum allMeasured allGone grown shrunk targetAnswer nadirOf overallAnswer judge gapLimit earlyDeath pfs best duration settledFrom pfsSettledBy bestSettledBy durationSettledBy pfsSettled bestSettled durationSettled
+unfolding starred further entryPasses wrongSize largeMeasured setBeyond sizedUnmeasured withoutDisease outsideLimits notZero measuredBeyond fitsBy fits measuredSum baselineSum allMeasured allGone grown shrunk targetAnswer nadirOf overallAnswer judge gapLimit earlyDeath pfs best duration settledFrom pfsSettledBy bestSettledBy durationSettledBy pfsSettled bestSettled durationSettled
 examples-hold = (record { lists = refl; visits = refl; answers = refl }, record { lists = refl; visits = refl; answers = refl })
 
 pub unlawful : Unlawful
-unfolding fits
+unfolding measuredBeyond fitsBy fits
 unlawful =
     record {
       withoutBaseline = refl;
@@ -47,7 +47,7 @@ on-study-days =
     }
 
 pub first-refusals : FirstRefusals
-unfolding refusalOfOpening refusalOfAdding refusalBehind refusalOfRead dateExists daysInMonth leapYear daysOfYears daysOfMonths dayNumber studyDayOf fits wrongSize largeMeasured setBeyond sizedUnmeasured withoutDisease outsideLimits notZero
+unfolding refusalOfOpening refusalOfAdding refusalBehind refusalOfRead dateExists daysInMonth leapYear daysOfYears daysOfMonths dayNumber studyDayOf measuredBeyond fitsBy fits wrongSize largeMeasured setBeyond sizedUnmeasured withoutDisease outsideLimits notZero
 first-refusals =
     record {
       opens = refl;

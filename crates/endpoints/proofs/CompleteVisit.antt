@@ -22,7 +22,7 @@ use Rattle.criteria.specs.Targets.{gone, allGone, targetAnswer}
 use Rattle.criteria.specs.Overall.{overallAnswer}
 use Rattle.criteria.specs.Visits.{visitTarget}
 use Rattle.endpoints.specs.StudyRecords.{Baseline, baseline, visit, disease, entryPasses, entryOfBaseline, fieldsPass}
-use Rattle.endpoints.specs.Lawful.{Past, latestDay, died, fits, lawfulBehind}
+use Rattle.endpoints.specs.Lawful.{Past, latestDay, died, measuredBeyond, fitsBy, fits, lawfulBehind}
 use Rattle.endpoints.specs.Visits.{visitsOf, judge}
 
 -- every target measured with size 0, non-target disease CR where there was some
@@ -118,7 +118,7 @@ module _ (b : Baseline) where
   complete-judged p d passes assessed = cc (complete-overall (visitsOf p) passes assessed)
 
   complete-fits : fits b (completeVisit b) ≡ true
-  unfolding fits completeVisit
+  unfolding measuredBeyond fitsBy fits completeVisit
   complete-fits =
       rw (not-both (b .count) 0, not-both (b .count) 1, not-both (b .count) 2, not-both (b .count) 3, not-both (b .count) 4) (go (b .nontarget))
     where

@@ -6,6 +6,7 @@ use mathlib.Core.Bool.{Bool, true, false, not}
 use mathlib.Core.List.{List, [], _∷_, _++_, reverse}
 use lib.Dec.{leb, ltb, eqb}
 use Rattle.laws.specs.Choice.{pick}
+use Rattle.records.specs.declared.Entry.{Entry}
 use Rattle.records.specs.declared.Record.{Record}
 use Rattle.records.specs.Form.{dateOf, kindNumber}
 use Rattle.records.specs.Refusals.{refusalOf}
@@ -51,9 +52,12 @@ refusalAfter (death d ∷ rs) r = 7
 abbrev pub afterOwn : Record → ℕ → ℕ
 afterOwn r n = pick (eqb (refusalOf r) 0) n (refusalOf r)
 
--- opening: 7 not a baseline
+-- 7 not a baseline; 0 for none
+abbrev pub notBaseline : Entry → ℕ
+notBaseline e = pick (eqb (kindNumber e) 1) 0 7
+
 unfoldable pub refusalOfOpening : Record → ℕ
-refusalOfOpening r = afterOwn r (pick (eqb (kindNumber (r .entry)) 1) 0 7)
+refusalOfOpening r = afterOwn r (notBaseline (r .entry))
 
 -- adding, judged against the records accepted so far, baseline first
 unfoldable pub refusalOfAdding : List Record → Record → ℕ

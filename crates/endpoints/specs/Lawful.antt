@@ -7,6 +7,7 @@ use mathlib.Core.List.{List, [], _∷_, reverse}
 use lib.Dec.{leb, ltb, eqb}
 use lib.ListN.{getD}
 use Rattle.laws.specs.Choice.{both, pick, some}
+use Rattle.records.specs.declared.Status.{Status}
 use Rattle.records.specs.Form.{statusNumber}
 use Rattle.records.specs.Refusals.{mostTargets}
 use Rattle.criteria.specs.Inputs.{Visit}
@@ -32,10 +33,16 @@ abbrev pub died : Past → Bool
 died p = isRecorded (deathDay p)
 
 -- targets beyond the count unmeasured, status 0 exactly when no non-target lesions were recorded
+unfoldable pub measuredBeyond : ℕ → List Bool → Bool
+measuredBeyond count measured = some (λ (i : ℕ). both (leb count i) (getD measured i false)) mostTargets
+
+unfoldable pub fitsBy : ℕ → Bool → Status → List Bool → Bool
+fitsBy count nontarget status measured =
+    both (not (measuredBeyond count measured))
+    (pick nontarget (not (eqb (statusNumber status) 0)) (eqb (statusNumber status) 0))
+
 unfoldable pub fits : Baseline → Visit → Bool
-fits b v =
-    both (not (some (λ (i : ℕ). both (leb (b .count) i) (getD (v .measured) i false)) mostTargets))
-    (pick (b .nontarget) (not (eqb (statusNumber (v .status)) 0)) (eqb (statusNumber (v .status)) 0))
+fits b v = fitsBy (b .count) (b .nontarget) (v .status) (v .measured)
 
 -- no other baseline; each therapy or death on or after the latest day so far; each visit later than it, and fitting the baseline
 abbrev pub placed : Baseline → ℕ → StudyRecord → Bool

@@ -3,7 +3,7 @@ use dates::StudyDay;
 use endpoints::MaybeDay;
 ghost use mathlib.Core.Path.{_≡_};
 ghost use Prim.Native.Nat.{_-_};
-ghost use Rattle.endpoints.specs.Values.{orDay1, dayValue};
+ghost use Rattle.endpoints.specs.Values.{isRecorded, orDay1, dayValue};
 
 // 0 where `to` is the earlier.
 pub(crate) fn days_between(from: StudyDay, to: StudyDay) -> u32
@@ -21,5 +21,14 @@ pub(crate) fn or_day_1(day: MaybeDay) -> StudyDay
     match day {
         MaybeDay::Absent => StudyDay(1),
         MaybeDay::On(d) => d,
+    }
+}
+
+pub fn is_recorded(day: MaybeDay) -> bool
+    ensures { λ r. ⌜ r ≡ isRecorded (dayValue day) ⌝ }
+{
+    match day {
+        MaybeDay::Absent => false,
+        MaybeDay::On(_) => true,
     }
 }

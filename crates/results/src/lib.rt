@@ -7,4 +7,5 @@ mod best; // best.rt: best response and duration
 
 pub use best::best_of;
 pub use best::duration_of;
+pub use days::is_recorded;
 pub use pfs::pfs_of;

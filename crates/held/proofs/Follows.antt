@@ -1,0 +1,185 @@
+-- What is held for PFS, best response and duration follows the list of the visits: one visit more makes of it what the longer list gives.
+-- Assumes nothing.
+use mathlib.Core.Path.{_≡_, refl, sym, _∙_}
+use mathlib.Core.Bool.{Bool, true, false}
+use mathlib.Core.List.{List, [], _∷_}
+use Prim.Native.Nat.{ℕ, _+_, _≤_}
+use native.Mathlib.Omega.{arith}
+use borrow.Author.Tests.{le-leb, leb-true}
+use Rattle.laws.specs.Choice.{both, either, pick}
+use Rattle.laws.proofs.Tests.{either-with-false}
+use Rattle.dates.specs.declared.StudyDay.{StudyDay}
+use Rattle.criteria.specs.Words.{Word, CR, PR, SD, PD, NE, NA, NN}
+use Rattle.criteria.specs.Overall.{isPD, evaluable}
+use Rattle.endpoints.specs.declared.MaybeDay.{MaybeDay}
+use Rattle.endpoints.specs.declared.MaybeDay.the-variants as M
+use Rattle.endpoints.specs.Values.{Day, none, on, isRecorded, _orElse_, dayValue}
+use Rattle.endpoints.specs.Visits.{Judged, firstPD}
+use Rattle.endpoints.specs.Pfs.{beforeEvent, lastVisit, lastEvaluable}
+use Rattle.endpoints.specs.Best.{isCR, isResponse, mayStandBetween, confirmDays, farApart, completeBefore, confirmedCR, responseBefore, confirmedResponse, stable, firstResponse}
+use Rattle.held.specs.declared.EventDays.{EventDays}
+use Rattle.held.specs.declared.CountedVisits.{CountedVisits}
+use Rattle.held.specs.Visits.{firstOf, farAfter, eventAfter, countedAfter}
+use Rattle.held.proofs.Ordered.{UpTo, Falling}
+
+-- a day as it is held
+abbrev pub at : ℕ → StudyDay
+at d = record { 0 = d }
+
+abbrev pub maybe : Day → MaybeDay
+maybe none = M.Absent
+maybe (on d) = M.On (at d)
+
+pub day-of-maybe : (x : Day) → dayValue (maybe x) ≡ x
+day-of-maybe none = refl
+day-of-maybe (on d) = refl
+
+-- the first CR of the visits of CR and NE that the list ends in
+abbrev crStart : List Judged → Day
+crStart [] = none
+crStart (j ∷ js) = pick (isCR (j .answer)) (crStart js orElse on (j .day)) (pick (mayStandBetween (j .answer)) (crStart js) none)
+
+-- what is held after the visits of a list
+unfoldable pub eventOf : List Judged → EventDays
+eventOf js =
+    record { progression = maybe (firstPD js); previous = at (lastVisit (beforeEvent js)); evaluable = maybe (lastEvaluable (beforeEvent js)) }
+
+unfoldable pub countedOf : List Judged → CountedVisits
+countedOf js =
+    record {
+      first = maybe (firstResponse js);
+      start = maybe (crStart js);
+      cr = confirmedCR js;
+      pr = confirmedResponse js;
+      sd = stable js;
+      pd = isRecorded (firstPD js);
+    }
+
+-- ---- the days of the event
+
+evaluable-follows : (d : ℕ) (x : Day) (ev : Bool) → pick ev (M.On (at d)) (maybe x) ≡ maybe (pick ev (on d) x)
+evaluable-follows d x true = refl
+evaluable-follows d x false = refl
+
+pub event-follows : (j : Judged) (js : List Judged) → eventAfter (eventOf js) (at (j .day)) (j .answer) ≡ eventOf (j ∷ js)
+unfolding eventAfter eventOf
+event-follows j js = go (firstPD js) (isPD (j .answer))
+  where
+    go : (x : Day) (pd : Bool) → _≡_ {A = EventDays}
+        (pick (isRecorded (dayValue (maybe x)))
+        (record { progression = maybe x; previous = at (lastVisit (beforeEvent js)); evaluable = maybe (lastEvaluable (beforeEvent js)) })
+        (pick pd
+        (record { progression = M.On (at (j .day)); previous = at (lastVisit (beforeEvent js)); evaluable = maybe (lastEvaluable (beforeEvent js)) })
+        (record { progression = M.Absent; previous = at (j .day); evaluable = pick (evaluable (j .answer)) (M.On (at (j .day))) (maybe (lastEvaluable (beforeEvent js))) })))
+        (record {
+          progression = maybe (x orElse pick pd (on (j .day)) none);
+          previous = at (lastVisit (pick (isRecorded (x orElse pick pd (on (j .day)) none)) (beforeEvent js) (j ∷ beforeEvent js)));
+          evaluable = maybe (lastEvaluable (pick (isRecorded (x orElse pick pd (on (j .day)) none)) (beforeEvent js) (j ∷ beforeEvent js)));
+        })
+    go (on d) pd = refl
+    go none true = refl
+    go none false =
+        let last = evaluable-follows (j .day) (lastEvaluable (beforeEvent js)) (evaluable (j .answer)) in
+        λ i. record { progression = M.Absent; previous = at (j .day); evaluable = last i }
+
+-- ---- the counting visits
+
+abbrev AtMost : Day → ℕ → Type 0
+AtMost none d = Unit {0}
+AtMost (on s) d = s ≤ d
+
+first-at-most : (d : ℕ) (js : List Judged) → UpTo d js → AtMost (firstResponse js) d
+first-at-most d [] u = tt
+first-at-most d (j ∷ js) u = go (firstResponse js) (isResponse (j .answer)) (first-at-most d js (u .1))
+  where
+    go : (f : Day) (r : Bool) → AtMost f d → AtMost (f orElse pick r (on (j .day)) none) d
+    go none true h = u .0
+    go none false h = tt
+    go (on s) r h = h
+
+start-at-most : (d : ℕ) (js : List Judged) → UpTo d js → AtMost (crStart js) d
+start-at-most d [] u = tt
+start-at-most d (j ∷ js) u = go (crStart js) (isCR (j .answer)) (mayStandBetween (j .answer)) (start-at-most d js (u .1))
+  where
+    go : (f : Day) (c m : Bool) → AtMost f d → AtMost (pick c (f orElse on (j .day)) (pick m f none)) d
+    go none true m h = u .0
+    go (on s) true m h = h
+    go f false true h = h
+    go f false false h = tt
+
+-- of two days the earlier one decides
+earlier-decides : (s t d : ℕ) → s ≤ t → either (farApart t d) (farApart s d) ≡ farApart s d
+earlier-decides s t d h = go (farApart t d) refl
+  where
+    go : (x : Bool) → farApart t d ≡ x → either x (farApart s d) ≡ farApart s d
+    go true e = let k = leb-true (t + confirmDays) d e in sym (le-leb (s + confirmDays) d (omega arith))
+    go false e = refl
+
+far-after-either : (f : Day) (t d : ℕ) → AtMost f t → either (farApart t d) (farAfter (maybe f) d) ≡ farAfter (maybe (f orElse on t)) d
+far-after-either none t d h = either-with-false (farApart t d)
+far-after-either (on s) t d h = earlier-decides s t d h
+
+complete-before : (d : ℕ) (js : List Judged) → Falling js → completeBefore d js ≡ farAfter (maybe (crStart js)) d
+complete-before d [] s = refl
+complete-before d (j ∷ js) s = go (j .answer) (complete-before d js (s .1))
+  where
+    go : (a : Word) → completeBefore d js ≡ farAfter (maybe (crStart js)) d →
+        either (both (isCR a) (farApart (j .day) d)) (both (mayStandBetween a) (completeBefore d js))
+        ≡ farAfter (maybe (pick (isCR a) (crStart js orElse on (j .day)) (pick (mayStandBetween a) (crStart js) none))) d
+    go CR ih = rw ih (far-after-either (crStart js) (j .day) d (start-at-most (j .day) js (s .0)))
+    go NE ih = ih
+    go PR ih = refl
+    go SD ih = refl
+    go PD ih = refl
+    go NA ih = refl
+    go NN ih = refl
+
+response-before : (d : ℕ) (js : List Judged) → Falling js → responseBefore d js ≡ farAfter (maybe (firstResponse js)) d
+response-before d [] s = refl
+response-before d (j ∷ js) s = go (isResponse (j .answer)) (response-before d js (s .1))
+  where
+    same : (f : Day) → farAfter (maybe f) d ≡ farAfter (maybe (f orElse none)) d
+    same none = refl
+    same (on x) = refl
+
+    go : (r : Bool) → responseBefore d js ≡ farAfter (maybe (firstResponse js)) d →
+        either (both r (farApart (j .day) d)) (responseBefore d js) ≡ farAfter (maybe (firstResponse js orElse pick r (on (j .day)) none)) d
+    go true ih = rw ih (far-after-either (firstResponse js) (j .day) d (first-at-most (j .day) js (s .0)))
+    go false ih = ih ∙ same (firstResponse js)
+
+module _ (d : ℕ) where
+  first-follows : (f : Day) (r : Bool) → pick r (firstOf (maybe f) (at d)) (maybe f) ≡ maybe (f orElse pick r (on d) none)
+  first-follows none true = refl
+  first-follows none false = refl
+  first-follows (on s) true = refl
+  first-follows (on s) false = refl
+
+  start-follows : (f : Day) (c m : Bool) → pick c (firstOf (maybe f) (at d)) (pick m (maybe f) M.Absent) ≡ maybe (pick c (f orElse on d) (pick m f none))
+  start-follows none true m = refl
+  start-follows (on s) true m = refl
+  start-follows f false true = refl
+  start-follows f false false = refl
+
+  progression-follows : (f : Day) (pd : Bool) → either pd (isRecorded f) ≡ isRecorded (f orElse pick pd (on d) none)
+  progression-follows none true = refl
+  progression-follows none false = refl
+  progression-follows (on s) true = refl
+  progression-follows (on s) false = refl
+
+pub counted-follows : (j : Judged) (js : List Judged) → Falling js → countedAfter (countedOf js) (at (j .day)) (j .answer) ≡ countedOf (j ∷ js)
+unfolding countedAfter countedOf
+counted-follows j js s =
+    let first = first-follows (j .day) (firstResponse js) (isResponse (j .answer)) in
+    let start = start-follows (j .day) (crStart js) (isCR (j .answer)) (mayStandBetween (j .answer)) in
+    let pd = progression-follows (j .day) (firstPD js) (isPD (j .answer)) in
+    let complete = sym (complete-before (j .day) js s) in
+    let response = sym (response-before (j .day) js s) in
+    λ i.
+    record {
+      first = first i;
+      start = start i;
+      cr = either (both (isCR (j .answer)) (complete i)) (confirmedCR js);
+      pr = either (both (isResponse (j .answer)) (response i)) (confirmedResponse js);
+      sd = stable (j ∷ js);
+      pd = pd i;
+    }

@@ -1,0 +1,161 @@
+-- 12 is what document 01 says, and one visit more keeps what is held in range.
+-- Assumes nothing.
+use mathlib.Core.Path.{_≡_, refl}
+use mathlib.Core.Bool.{Bool, true, false}
+use mathlib.Core.List.{List}
+use Prim.Native.Nat.{ℕ, zero, suc, _+_, _*_, _≤_, _<_}
+use native.Mathlib.Omega.{arith}
+use lib.Dec.{leb, ltb}
+use lib.ListN.{getD}
+use borrow.Author.Tests.{leb-true, le-leb}
+use Rattle.laws.specs.Choice.{pick}
+use Rattle.laws.proofs.Tests.{both-true}
+use Rattle.dates.specs.Calendar.{lastDayNumber, dateExists}
+use Rattle.dates.specs.declared.StudyDay.{StudyDay}
+use Rattle.records.specs.declared.BaselineEntry.{BaselineEntry}
+use Rattle.records.specs.Refusals.{mostTargets, largestSize}
+use Rattle.criteria.specs.Words.{Word}
+use Rattle.criteria.specs.Sums.{sumWhere, baselineSum}
+use Rattle.criteria.specs.Nadir.{nadirOf}
+use Rattle.criteria.specs.Overall.{isPD, evaluable}
+use Rattle.endpoints.specs.declared.MaybeDay.{MaybeDay}
+use Rattle.endpoints.specs.declared.MaybeDay.the-variants as M
+use Rattle.endpoints.specs.Values.{isRecorded, dayValue}
+use Rattle.endpoints.specs.Best.{isCR, isResponse, mayStandBetween}
+use Rattle.held.specs.declared.EventDays.{EventDays}
+use Rattle.held.specs.declared.CountedVisits.{CountedVisits}
+use Rattle.held.specs.declared.Subject.{Subject}
+use Rattle.held.specs.Range.{dayInRange, maybeInRange, eventInRange, largestSum, inRange}
+use Rattle.held.specs.Opening.{firstSubject, blank}
+use Rattle.held.specs.Visits.{firstOf, eventAfter, countedAfter}
+use Rattle.held.specs.Laws.{Within, AbsentOrWithin, EventWithin, CountedWithin, SubjectWithin, RangeLaws}
+
+-- ---- what 12 judges
+
+within : (d : ℕ) → dayInRange d ≡ true → Within d
+within d e = let p = both-true (leb 1 d) _ e in (leb-true 1 d (p .0), leb-true d lastDayNumber (p .1))
+
+day-in-range : (d : ℕ) → Within d → dayInRange d ≡ true
+day-in-range d w = rw (le-leb 1 d (w .0), le-leb d lastDayNumber (w .1))
+
+absent-or-within : (m : MaybeDay) → maybeInRange m ≡ true → AbsentOrWithin m
+absent-or-within M.Absent e = tt
+absent-or-within (M.On d) e = within (d .0) e
+
+maybe-in-range : (m : MaybeDay) → AbsentOrWithin m → maybeInRange m ≡ true
+maybe-in-range M.Absent w = refl
+maybe-in-range (M.On d) w = day-in-range (d .0) w
+
+pub subject-within : (s : Subject) → inRange s ≡ true → SubjectWithin s
+unfolding inRange
+subject-within s e =
+    let date = both-true (dateExists (s .randomisation)) _ e in
+    let count = both-true (leb (s .baseline .count) mostTargets) _ (date .1) in
+    let sum = both-true (leb (s .baseline .sum) largestSum) _ (count .1) in
+    let nadir = both-true (leb (s .earlier .nadir) largestSum) _ (sum .1) in
+    let latest = both-true (dayInRange (s .latest .0)) _ (nadir .1) in
+    let death = both-true (maybeInRange (s .death)) _ (latest .1) in
+    let days = both-true (eventInRange (s .event)) _ (death .1) in
+    let previous = both-true (dayInRange (s .event .previous .0)) _ (days .0) in
+    let rest = both-true (maybeInRange (s .event .progression)) _ (previous .1) in
+    let counted = both-true (maybeInRange (s .counted .first)) _ (days .1) in
+    record {
+      randomisation = date .0;
+      count = leb-true (s .baseline .count) mostTargets (count .0);
+      sum = leb-true (s .baseline .sum) largestSum (sum .0);
+      nadir = leb-true (s .earlier .nadir) largestSum (nadir .0);
+      latest = within (s .latest .0) (latest .0);
+      death = absent-or-within (s .death) (death .0);
+      event =
+          record {
+            previous = within (s .event .previous .0) (previous .0);
+            progression = absent-or-within (s .event .progression) (rest .0);
+            evaluable = absent-or-within (s .event .evaluable) (rest .1);
+          };
+      counted = record { first = absent-or-within (s .counted .first) (counted .0); start = absent-or-within (s .counted .start) (counted .1) };
+    }
+
+pub in-range : (s : Subject) → SubjectWithin s → inRange s ≡ true
+unfolding inRange
+in-range s w =
+    rw (
+      w .randomisation,
+      le-leb (s .baseline .count) mostTargets (w .count),
+      le-leb (s .baseline .sum) largestSum (w .sum),
+      le-leb (s .earlier .nadir) largestSum (w .nadir),
+      day-in-range (s .latest .0) (w .latest),
+      maybe-in-range (s .death) (w .death),
+      day-in-range (s .event .previous .0) (w .event .previous),
+      maybe-in-range (s .event .progression) (w .event .progression),
+      maybe-in-range (s .event .evaluable) (w .event .evaluable),
+      maybe-in-range (s .counted .first) (w .counted .first),
+      maybe-in-range (s .counted .start) (w .counted .start),
+    )
+
+pub blank-outside : inRange blank ≡ false
+unfolding inRange blank dateExists
+blank-outside = refl
+
+pub range-laws : RangeLaws
+range-laws = record { exactly = λ s. (subject-within s, in-range s); blankOutside = blank-outside }
+
+-- ---- a baseline
+
+sum-most : (marked : ℕ → Bool) (sizes : List ℕ) (n : ℕ) → ((k : ℕ) → k < n → getD sizes k 0 ≤ largestSize) → sumWhere marked sizes n ≤ n * largestSize
+sum-most marked sizes zero small = omega arith
+sum-most marked sizes (suc n) small = go (marked n) (sum-most marked sizes n (λ k h. small k (omega arith))) (small n (omega arith))
+  where
+    go : (x : Bool) → sumWhere marked sizes n ≤ n * largestSize → getD sizes n 0 ≤ largestSize →
+        sumWhere marked sizes n + pick x (getD sizes n 0) 0 ≤ suc n * largestSize
+    go true h k = omega arith
+    go false h k = omega arith
+
+pub opening-within : (b : BaselineEntry) (nodes : List Bool) (sizes : List ℕ) → dateExists (b .date) ≡ true → b .count ≤ mostTargets →
+    ((k : ℕ) → k < mostTargets → getD sizes k 0 ≤ largestSize) → SubjectWithin (firstSubject b nodes sizes)
+unfolding firstSubject nadirOf baselineSum
+opening-within b nodes sizes date count small =
+    let sum = sum-most (λ (i : ℕ). ltb i (b .count)) sizes mostTargets small in
+    record {
+      randomisation = date;
+      count = count;
+      sum = sum;
+      nadir = sum;
+      latest = (omega arith, omega arith);
+      death = tt;
+      event = record { previous = (omega arith, omega arith); progression = tt; evaluable = tt };
+      counted = record { first = tt; start = tt };
+    }
+
+-- ---- one visit more
+
+module _ (d : StudyDay) (w : Within (d .0)) where
+  first-within : (m : MaybeDay) → AbsentOrWithin m → AbsentOrWithin (firstOf m d)
+  first-within M.Absent h = w
+  first-within (M.On e) h = h
+
+  pick-within : (x : Bool) (m n : MaybeDay) → AbsentOrWithin m → AbsentOrWithin n → AbsentOrWithin (pick x m n)
+  pick-within true m n h k = h
+  pick-within false m n h k = k
+
+  pub event-within : (e : EventDays) (a : Word) → EventWithin e → EventWithin (eventAfter e d a)
+  unfolding eventAfter
+  event-within e a h = go (isRecorded (dayValue (e .progression))) (isPD a)
+    where
+      go : (x y : Bool) →
+          EventWithin
+          (pick x e
+          (pick y (record { progression = M.On d; previous = e .previous; evaluable = e .evaluable })
+          (record { progression = M.Absent; previous = d; evaluable = pick (evaluable a) (M.On d) (e .evaluable) })))
+      go true y = h
+      go false true = record { previous = h .previous; progression = w; evaluable = h .evaluable }
+      go false false = record { previous = w; progression = tt; evaluable = pick-within (evaluable a) (M.On d) (e .evaluable) w (h .evaluable) }
+
+  pub counted-within : (c : CountedVisits) (a : Word) → CountedWithin c → CountedWithin (countedAfter c d a)
+  unfolding countedAfter
+  counted-within c a h =
+      record {
+        first = pick-within (isResponse a) (firstOf (c .first) d) (c .first) (first-within (c .first) (h .first)) (h .first);
+        start =
+            pick-within (isCR a) (firstOf (c .start) d) (pick (mayStandBetween a) (c .start) M.Absent) (first-within (c .start) (h .start))
+            (pick-within (mayStandBetween a) (c .start) M.Absent (h .start) tt);
+      }

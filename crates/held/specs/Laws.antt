@@ -1,0 +1,45 @@
+-- What document 01, "Where a call stops", says of 12, in its numbers: stated here, proved in proofs/Within.antt.
+-- Assumes nothing.
+use mathlib.Core.Path.{_≡_}
+use mathlib.Core.Bool.{true, false}
+use mathlib.Core.Logic.{_↔_}
+use Prim.Native.Nat.{ℕ, _≤_}
+use Rattle.dates.specs.Calendar.{dateExists}
+use Rattle.endpoints.specs.declared.MaybeDay.{MaybeDay}
+use Rattle.endpoints.specs.declared.MaybeDay.the-variants as M
+use Rattle.held.specs.declared.EventDays.{EventDays}
+use Rattle.held.specs.declared.CountedVisits.{CountedVisits}
+use Rattle.held.specs.declared.Subject.{Subject}
+use Rattle.held.specs.Range.{inRange}
+use Rattle.held.specs.Opening.{blank}
+
+abbrev pub Within : ℕ → Type 0
+Within d = (1 ≤ d) × (d ≤ 40177)
+
+abbrev pub AbsentOrWithin : MaybeDay → Type 0
+AbsentOrWithin M.Absent = Unit {0}
+AbsentOrWithin (M.On d) = Within (d .0)
+
+pub record EventWithin (e : EventDays) : Type 0 where
+  pub previous : Within (e .previous .0)
+  pub progression : AbsentOrWithin (e .progression)
+  pub evaluable : AbsentOrWithin (e .evaluable)
+
+pub record CountedWithin (c : CountedVisits) : Type 0 where
+  pub first : AbsentOrWithin (c .first)
+  pub start : AbsentOrWithin (c .start)
+
+-- every day from 1 to 40,177, every sum at most 2,500, at most 5 targets, and a randomisation date that 3 does not meet
+pub record SubjectWithin (s : Subject) : Type 0 where
+  pub randomisation : dateExists (s .randomisation) ≡ true
+  pub count : s .baseline .count ≤ 5
+  pub sum : s .baseline .sum ≤ 2500
+  pub nadir : s .earlier .nadir ≤ 2500
+  pub latest : Within (s .latest .0)
+  pub death : AbsentOrWithin (s .death)
+  pub event : EventWithin (s .event)
+  pub counted : CountedWithin (s .counted)
+
+pub record RangeLaws : Type 0 where
+  pub exactly : (s : Subject) → (inRange s ≡ true) ↔ SubjectWithin s
+  pub blankOutside : inRange blank ≡ false

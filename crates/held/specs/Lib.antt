@@ -1,0 +1,4 @@
+pub mod Range
+pub mod Opening
+pub mod Visits
+pub mod Laws

@@ -1,0 +1,44 @@
+-- Document 01, "Where a call stops", 12: which held subjects are in range.
+-- Assumes nothing.
+use Prim.Native.Nat.{ℕ, _*_}
+use mathlib.Core.Bool.{Bool, true}
+use lib.Dec.{leb}
+use Rattle.laws.specs.Choice.{both}
+use Rattle.dates.specs.Calendar.{lastDayNumber, dateExists}
+use Rattle.records.specs.Refusals.{mostTargets, largestSize}
+use Rattle.endpoints.specs.declared.MaybeDay.{MaybeDay}
+use Rattle.endpoints.specs.declared.MaybeDay.the-variants as M
+use Rattle.held.specs.declared.EventDays.{EventDays}
+use Rattle.held.specs.declared.CountedVisits.{CountedVisits}
+use Rattle.held.specs.declared.Subject.{Subject}
+
+-- no day 0 and none over 40,177
+abbrev pub dayInRange : ℕ → Bool
+dayInRange d = both (leb 1 d) (leb d lastDayNumber)
+
+-- a day that is absent has its own mark
+abbrev pub maybeInRange : MaybeDay → Bool
+maybeInRange M.Absent = true
+maybeInRange (M.On d) = dayInRange (d .0)
+
+-- 2,500
+abbrev pub largestSum : ℕ
+largestSum = mostTargets * largestSize
+
+abbrev pub eventInRange : EventDays → Bool
+eventInRange e = both (dayInRange (e .previous .0)) (both (maybeInRange (e .progression)) (maybeInRange (e .evaluable)))
+
+abbrev pub countedInRange : CountedVisits → Bool
+countedInRange c = both (maybeInRange (c .first)) (maybeInRange (c .start))
+
+-- the randomisation date, the target count, the sums and the days
+unfoldable pub inRange : Subject → Bool
+inRange s =
+    both (dateExists (s .randomisation))
+    (both (leb (s .baseline .count) mostTargets)
+    (both (leb (s .baseline .sum) largestSum)
+    (both (leb (s .earlier .nadir) largestSum)
+    (both (dayInRange (s .latest .0))
+    (both (maybeInRange (s .death))
+    (both (eventInRange (s .event))
+    (countedInRange (s .counted))))))))

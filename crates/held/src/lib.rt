@@ -1,0 +1,57 @@
+// What is held of one subject between calls: what a baseline makes it, what one visit more makes of its parts, and whether it is in range
+// (document 01, "Outcome" and "Where a call stops", 12). That the parts follow the list of the records is proved here.
+use criteria::BaselineDisease;
+use criteria::Earlier;
+use dates::Date;
+use dates::StudyDay;
+use endpoints::MaybeDay;
+
+mod days; // days.rt: days that may be absent
+mod range; // range.rt: what 12 judges
+mod visits; // visits.rt: the days and the best response after one visit more
+mod opening; // opening.rt: the subject after a baseline
+
+pub use opening::blank_subject;
+pub use opening::first_subject;
+pub use range::in_range;
+pub use visits::counted_after;
+pub use visits::event_after;
+
+// What progression-free survival is read from, beside the day of death.
+pub struct EventDays {
+    pub progression: MaybeDay,
+    // The last visit recorded before the event, evaluable or not, or day 1.
+    pub previous: StudyDay,
+    // The last evaluable visit before the event.
+    pub evaluable: MaybeDay,
+}
+
+// What the counting visits show.
+pub struct CountedVisits {
+    // The first CR or PR.
+    pub first: MaybeDay,
+    // The first CR of the visits of CR and NE that they end in.
+    pub start: MaybeDay,
+    // Two CR visits far enough apart with only CR or NE between.
+    pub cr: bool,
+    // Two visits of CR or PR far enough apart.
+    pub pr: bool,
+    // A CR, PR or SD late enough.
+    pub sd: bool,
+    // Progression.
+    pub pd: bool,
+}
+
+pub struct Subject {
+    pub randomisation: Date,
+    // Has non-target lesions.
+    pub nontarget: bool,
+    pub baseline: BaselineDisease,
+    pub earlier: Earlier,
+    // The day of the last record.
+    pub latest: StudyDay,
+    pub therapy: bool,
+    pub death: MaybeDay,
+    pub event: EventDays,
+    pub counted: CountedVisits,
+}

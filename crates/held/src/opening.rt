@@ -1,0 +1,84 @@
+// The subject after a baseline, and the blank that stands beside a refused opening.
+use super::CountedVisits;
+use super::EventDays;
+use super::Subject;
+use criteria::BaselineDisease;
+use criteria::Earlier;
+use dates::Date;
+use dates::StudyDay;
+use endpoints::MaybeDay;
+use records::BaselineEntry;
+ghost use mathlib.Core.Path.{_≡_};
+ghost use Rattle.held.specs.Opening.{noVisits, nothingCounted, firstSubject, blank};
+
+fn no_visits(day: StudyDay) -> EventDays
+    ensures { λ r. ⌜ r ≡ noVisits day ⌝ }
+{
+    EventDays {
+        progression: MaybeDay::Absent,
+        previous: day,
+        evaluable: MaybeDay::Absent,
+    }
+}
+
+fn nothing_counted() -> CountedVisits
+    ensures { λ r. ⌜ r ≡ nothingCounted ⌝ }
+{
+    CountedVisits {
+        first: MaybeDay::Absent,
+        start: MaybeDay::Absent,
+        cr: false,
+        pr: false,
+        sd: false,
+        pd: false,
+    }
+}
+
+pub fn first_subject(entry: BaselineEntry, nodes: [bool; 5], sizes: [u16; 5]) -> Subject
+    ensures { λ r. ⌜ r ≡ firstSubject entry nodes sizes ⌝ }
+{
+    let date = entry.date;
+    let judged = response::judge_baseline(entry, nodes, sizes);
+    let disease = judged.disease;
+    let after = judged.after;
+    let event = no_visits(StudyDay(1));
+    let counted = nothing_counted();
+    Subject {
+        randomisation: date,
+        nontarget: entry.nontarget,
+        baseline: disease,
+        earlier: after,
+        latest: StudyDay(1),
+        therapy: false,
+        death: MaybeDay::Absent,
+        event: event,
+        counted: counted,
+    }
+}
+
+pub fn blank_subject() -> Subject
+    ensures { λ r. ⌜ r ≡ blank ⌝ }
+{
+    let event = no_visits(StudyDay(0));
+    let counted = nothing_counted();
+    Subject {
+        randomisation: Date {
+            year: 0,
+            month: 0,
+            day: 0,
+        },
+        nontarget: false,
+        baseline: BaselineDisease {
+            assessed: false,
+            count: 0,
+            nodes: [false; 5],
+            sum: 0,
+        },
+        earlier: Earlier { nadir: 0 },
+        latest: StudyDay(0),
+        therapy: false,
+        death: MaybeDay::Absent,
+        event: event,
+        counted: counted,
+    }
+}

@@ -1,0 +1,177 @@
+-- What opening, adding and reading answer, from what the code found: `search` finds the premises by itself.
+-- Assumes nothing.
+use mathlib.Core.Path.{_≡_, refl, sym, ap, _∙_}
+use mathlib.Core.Bool.{Bool, true, false, not, _||_}
+use mathlib.Core.List.{List}
+use Prim.Native.Nat.{ℕ, suc}
+use native.Mathlib.Omega.{arith}
+use lib.Dec.{leb, eqb}
+use borrow.Author.Tests.{ne-eqb, not-true, not-false}
+use Rattle.laws.specs.Choice.{pick}
+use Rattle.dates.specs.declared.Date.{Date}
+use Rattle.dates.specs.declared.StudyDay.{StudyDay}
+use Rattle.records.specs.declared.BaselineEntry.{BaselineEntry}
+use Rattle.records.specs.declared.VisitEntry.{VisitEntry}
+use Rattle.records.specs.declared.Entry.{Entry}
+use Rattle.records.specs.declared.Entry.the-variants as E
+use Rattle.records.specs.declared.Record.{Record}
+use Rattle.records.specs.declared.CheckAnswer.{CheckAnswer}
+use Rattle.records.specs.declared.CheckAnswer.the-variants as C
+use Rattle.records.specs.Form.{Five}
+use Rattle.records.specs.Refusals.{checkNumber, refusalOf}
+use Rattle.endpoints.specs.declared.PfsResult.{PfsResult}
+use Rattle.endpoints.specs.declared.BestResponse.{BestResponse}
+use Rattle.endpoints.specs.declared.DurationResult.{DurationResult}
+use Rattle.endpoints.specs.declared.DurationAnswer.{DurationAnswer}
+use Rattle.endpoints.specs.declared.DurationAnswer.the-variants as D
+use Rattle.endpoints.specs.Values.{isRecorded, dayValue, pfsValues, bestWord, durationValues}
+use Rattle.endpoints.specs.Pfs.{earlyDeath, pfsOf}
+use Rattle.endpoints.specs.Best.{isCR, bestOf, durationOf}
+use Rattle.endpoints.specs.Settled.{settledFrom, pfsSettledBy, bestSettledBy, durationSettledBy}
+use Rattle.endpoints.specs.Adding.{notBaseline, refusalOfOpening}
+use Rattle.held.specs.declared.Subject.{Subject}
+use Rattle.held.specs.Range.{inRange}
+use Rattle.held.specs.Opening.{firstSubject, blank}
+use Rattle.placing.specs.declared.AddAnswer.{AddAnswer}
+use Rattle.placing.specs.declared.AddAnswer.the-variants as A
+use Rattle.placing.specs.declared.AddResult.{AddResult}
+use Rattle.placing.specs.Refusals.{addNumber, refusalOn, entryPlaced, Places}
+use Rattle.outcome.specs.declared.OpenAnswer.{OpenAnswer}
+use Rattle.outcome.specs.declared.OpenAnswer.the-variants as O
+use Rattle.outcome.specs.declared.OpenResult.{OpenResult}
+use Rattle.outcome.specs.declared.OutcomeResult.{OutcomeResult}
+use Rattle.outcome.specs.declared.OutcomeAnswer.the-variants as R
+use Rattle.outcome.specs.Promises.{openNumber, subjectOf, OpensChecked, openedSubject, Opened, refusalHeld, nextSubject, Added, outcomeValues, outcomeOf, readingOf, Told}
+
+-- ---- opening
+
+-- 7 stands beside the blank
+only-baseline : (e : Entry) (marks : List Bool) (sizes : List ℕ) → subjectOf e marks sizes ≡ pick (eqb (notBaseline e) 0) (subjectOf e marks sizes) blank
+only-baseline (E.Baseline b) marks sizes = refl
+only-baseline (E.Visit v) marks sizes = refl
+only-baseline (E.Therapy d) marks sizes = refl
+only-baseline (E.Death d) marks sizes = refl
+
+module _ (e : Entry) (marks : List Bool) (sizes : List ℕ) where
+  pub checked-baseline : (b : BaselineEntry) (s : Subject) → e ≡ E.Baseline b → s ≡ firstSubject b marks sizes → OpensChecked e marks sizes O.Done s
+  checked-baseline b s k q = record { answer = rw k; made = q ∙ rw k }
+
+  module _ (x : OpenResult) (q : (x .answer ≡ O.NotBaseline) × (x .subject ≡ blank)) where
+    pub checked-visit : (v : VisitEntry) → e ≡ E.Visit v → OpensChecked e marks sizes (x .answer) (x .subject)
+    checked-visit v k = record { answer = rw (q .0, k); made = q .1 ∙ rw k }
+
+    pub checked-therapy : (d : Date) → e ≡ E.Therapy d → OpensChecked e marks sizes (x .answer) (x .subject)
+    checked-therapy d k = record { answer = rw (q .0, k); made = q .1 ∙ rw k }
+
+    pub checked-death : (d : Date) → e ≡ E.Death d → OpensChecked e marks sizes (x .answer) (x .subject)
+    checked-death d k = record { answer = rw (q .0, k); made = q .1 ∙ rw k }
+
+module _ (r : Record) (five : Five r) where
+  not-opened : (x : OpenResult) (a : OpenAnswer) (n : ℕ) → openNumber a ≡ suc n → refusalOfOpening r ≡ suc n →
+      (x .answer ≡ a) × (x .subject ≡ blank) → Opened r (x .answer) (x .subject)
+  unfolding openedSubject
+  not-opened x a n p e q =
+      record { answer = ap openNumber (q .0) ∙ p ∙ sym e; made = q .1 ∙ rw (e, ne-eqb (suc n) 0 (omega arith)); five = five }
+
+  module _ (c : CheckAnswer) (e : checkNumber c ≡ refusalOf r) where
+    own : (n : ℕ) → checkNumber c ≡ suc n → refusalOfOpening r ≡ suc n
+    unfolding refusalOfOpening
+    own n p = let q : refusalOf r ≡ suc n = sym e ∙ p in rw (q, ne-eqb (suc n) 0 (omega arith))
+
+    module _ (x : OpenResult) where
+      pub opens-without-date : c ≡ C.NoSuchDate → (x .answer ≡ O.NoSuchDate) × (x .subject ≡ blank) → Opened r (x .answer) (x .subject)
+      opens-without-date p q = not-opened x O.NoSuchDate 2 refl (own 2 (ap checkNumber p)) q
+
+      pub opens-outside : c ≡ C.OutsideLimits → (x .answer ≡ O.OutsideLimits) × (x .subject ≡ blank) → Opened r (x .answer) (x .subject)
+      opens-outside p q = not-opened x O.OutsideLimits 3 refl (own 3 (ap checkNumber p)) q
+
+      pub opens-not-zero : c ≡ C.NotZero → (x .answer ≡ O.NotZero) × (x .subject ≡ blank) → Opened r (x .answer) (x .subject)
+      opens-not-zero p q = not-opened x O.NotZero 4 refl (own 4 (ap checkNumber p)) q
+
+    pub opens-passed : (x : OpenResult) → c ≡ C.Passed → OpensChecked (r .entry) (r .marks) (r .sizes) (x .answer) (x .subject) →
+        Opened r (x .answer) (x .subject)
+    unfolding openedSubject refusalOfOpening
+    opens-passed x p q =
+        let passed : refusalOf r ≡ 0 = sym e ∙ ap checkNumber p in
+        record { answer = q .answer ∙ rw passed; made = q .made ∙ rw passed (only-baseline (r .entry) (r .marks) (r .sizes)); five = five }
+
+-- ---- adding
+
+module _ (s : Subject) (r : Record) (inside : Bool) (iq : inside ≡ inRange s) where
+  not-added : (x : AddResult) (a : AddAnswer) (n : ℕ) → addNumber a ≡ suc n → refusalHeld s r ≡ suc n → (x .answer ≡ a) × (x .subject ≡ s) →
+      Added s r (x .answer) (x .subject)
+  unfolding nextSubject
+  not-added x a n p e q = record { answer = ap addNumber (q .0) ∙ p ∙ sym e; left = q .1 ∙ rw (e, ne-eqb (suc n) 0 (omega arith)) }
+
+  pub out-of-range : (x : AddResult) → not inside ≡ true → (x .answer ≡ A.OutOfRange) × (x .subject ≡ s) → Added s r (x .answer) (x .subject)
+  unfolding refusalHeld
+  out-of-range x h q = not-added x A.OutOfRange 11 refl (rw (← iq, not-true inside h)) q
+
+  module _ (h : not inside ≡ false) (c : CheckAnswer) (e : checkNumber c ≡ refusalOf r) (x : AddResult) where
+    own-refusal : (n : ℕ) → checkNumber c ≡ suc n → refusalHeld s r ≡ suc n
+    unfolding refusalHeld
+    own-refusal n p = let q : refusalOf r ≡ suc n = sym e ∙ p in rw (← iq, not-false inside h, q, ne-eqb (suc n) 0 (omega arith))
+
+    pub adds-without-date : c ≡ C.NoSuchDate → (x .answer ≡ A.NoSuchDate) × (x .subject ≡ s) → Added s r (x .answer) (x .subject)
+    adds-without-date p q = not-added x A.NoSuchDate 2 refl (own-refusal 2 (ap checkNumber p)) q
+
+    pub adds-outside : c ≡ C.OutsideLimits → (x .answer ≡ A.OutsideLimits) × (x .subject ≡ s) → Added s r (x .answer) (x .subject)
+    adds-outside p q = not-added x A.OutsideLimits 3 refl (own-refusal 3 (ap checkNumber p)) q
+
+    pub adds-not-zero : c ≡ C.NotZero → (x .answer ≡ A.NotZero) × (x .subject ≡ s) → Added s r (x .answer) (x .subject)
+    adds-not-zero p q = not-added x A.NotZero 4 refl (own-refusal 4 (ap checkNumber p)) q
+
+    pub adds-placed : c ≡ C.Passed → Places s r (x .answer) (x .subject) → Added s r (x .answer) (x .subject)
+    unfolding refusalHeld nextSubject entryPlaced
+    adds-placed p q =
+        let passed : refusalOf r ≡ 0 = sym e ∙ ap checkNumber p in
+        let whole : refusalHeld s r ≡ refusalOn s (r .entry) (r .marks) = rw (← iq, not-false inside h, passed) in
+        record { answer = q .answer ∙ sym whole; left = q .left ∙ rw whole }
+
+-- ---- the marks
+
+module _ (assessed progressed dead : Bool) (latest : StudyDay) where
+  pub assessed-settled : assessed ≡ true → (progressed || dead) ≡ pfsSettledBy assessed progressed dead (latest .0)
+  unfolding pfsSettledBy
+  assessed-settled q = rw q
+
+  pub missing-settled : assessed ≡ false → (dead || leb 93 (latest .0)) ≡ pfsSettledBy assessed progressed dead (latest .0)
+  unfolding pfsSettledBy settledFrom earlyDeath
+  missing-settled q = rw q
+
+pub best-settled-as : (progressed therapy dead assessed x : Bool) (best : BestResponse) → x ≡ isCR (bestWord best) →
+    (progressed || (therapy || (dead || (not assessed || x)))) ≡ bestSettledBy progressed therapy dead assessed (bestWord best)
+unfolding bestSettledBy
+best-settled-as progressed therapy dead assessed x best q = rw q
+
+module _ (d : DurationAnswer) (pfs best : Bool) where
+  pub none-settled : d ≡ D.Absent → best ≡ durationSettledBy (durationValues d) pfs best
+  unfolding durationSettledBy
+  none-settled q = rw q
+
+  pub duration-settled-as : (x : DurationResult) → d ≡ D.ForDays x → pfs ≡ durationSettledBy (durationValues d) pfs best
+  unfolding durationSettledBy
+  duration-settled-as x q = rw q
+
+-- ---- reading
+
+pub parts-read : (s : Subject) (p : PfsResult) (b : BestResponse) (d : DurationAnswer) (progressed dead pfs best duration : Bool) →
+    pfsValues p ≡ pfsOf (dayValue (s .event .progression)) (dayValue (s .death)) (s .event .previous .0) (dayValue (s .event .evaluable)) →
+    bestWord b ≡ bestOf (s .counted .cr) (s .counted .pr) (s .counted .sd) (s .counted .pd) →
+    durationValues d ≡ durationOf (bestWord b) (dayValue (s .counted .first)) (pfsValues p) →
+    progressed ≡ isRecorded (dayValue (s .event .progression)) → dead ≡ isRecorded (dayValue (s .death)) →
+    pfs ≡ pfsSettledBy (s .baseline .assessed) progressed dead (s .latest .0) →
+    best ≡ bestSettledBy progressed (s .therapy) dead (s .baseline .assessed) (bestWord b) →
+    duration ≡ durationSettledBy (durationValues d) pfs best →
+    outcomeValues (record { pfs = p; best = b; duration = d; settled = record { pfs = pfs; best = best; duration = duration } }) ≡ outcomeOf s
+unfolding outcomeOf
+parts-read s p b d progressed dead pfs best duration pq bq dq gq tq mp mb md = rw (md, mp, mb, dq, bq, pq, gq, tq)
+
+module _ (s : Subject) (inside : Bool) (iq : inside ≡ inRange s) where
+  pub not-read : not inside ≡ true → Told s R.OutOfRange
+  unfolding readingOf
+  not-read h = record { answer = rw (← iq, not-true inside h) }
+
+  pub read-told : (o : OutcomeResult) → not inside ≡ false → outcomeValues o ≡ outcomeOf s → Told s (R.Told o)
+  unfolding readingOf
+  read-told o h q = record { answer = rw (← iq, not-false inside h, q) }

@@ -1,0 +1,5 @@
+pub mod Follows
+pub mod Within
+pub mod Runs
+pub mod Demand
+mod Answers

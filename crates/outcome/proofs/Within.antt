@@ -1,0 +1,123 @@
+-- Refusals and ranges of opening, adding and reading, for every record value and every subject.
+-- Assumes nothing.
+use mathlib.Core.Path.{_≡_, refl, sym, _∙_, subst}
+use mathlib.Core.Bool.{Bool, true, false}
+use mathlib.Core.List.{List}
+use Prim.Native.Nat.{ℕ, _+_, _-_}
+use native.Mathlib.Omega.{arith}
+use lib.Dec.{leb, eqb}
+use borrow.Author.Tests.{eq-eqb, ne-eqb, eqb-true}
+use Rattle.laws.specs.Choice.{pick}
+use Rattle.records.specs.declared.Entry.{Entry}
+use Rattle.records.specs.declared.Entry.the-variants as E
+use Rattle.records.specs.declared.Record.{Record}
+use Rattle.records.proofs.Passed.{Passes, passes, small-baseline}
+use Rattle.criteria.specs.Words.{Word}
+use Rattle.endpoints.specs.declared.MaybeDay.{MaybeDay}
+use Rattle.endpoints.specs.declared.MaybeDay.the-variants as M
+use Rattle.endpoints.specs.Values.{orDay1, Pfs, noDuration, forDays, event, censored, dayValue}
+use Rattle.endpoints.specs.Pfs.{twoMissed, earlyDeath, pfsOf}
+use Rattle.endpoints.specs.Best.{isResponse, durationOf}
+use Rattle.endpoints.specs.Adding.{afterOwn, notBaseline, refusalOfOpening}
+use Rattle.endpoints.proofs.Calls.{none-of-both}
+use Rattle.held.specs.declared.Subject.{Subject}
+use Rattle.held.specs.Range.{inRange}
+use Rattle.held.specs.Laws.{Within, AbsentOrWithin, SubjectWithin}
+use Rattle.held.proofs.Within.{subject-within, in-range, blank-outside, opening-within}
+use Rattle.placing.specs.declared.AddAnswer.{AddAnswer}
+use Rattle.placing.specs.Added.{entryAdded}
+use Rattle.placing.specs.Refusals.{refusalOn}
+use Rattle.placing.proofs.Within.{adding-within}
+use Rattle.outcome.specs.declared.OpenAnswer.{OpenAnswer}
+use Rattle.outcome.specs.Promises.{openNumber, subjectOf, openedSubject, Opened, refusalHeld, nextSubject, Added, outcome, pfsHeld, bestHeld, outcomeOf, readingOf}
+use Rattle.outcome.specs.Laws.{DurationWithin, TellsWithin, CallsInRange}
+
+-- ---- opening
+
+first-within : (e : Entry) (marks : List Bool) (sizes : List ℕ) → Passes (record { entry = e; sizes = sizes; marks = marks }) false false →
+    notBaseline e ≡ 0 → SubjectWithin (subjectOf e marks sizes)
+first-within (E.Baseline b) marks sizes own q =
+    let small = small-baseline b marks sizes (own .limits) (own .zeros) in
+    opening-within b marks sizes (own .date) (small .0) (small .1)
+first-within (E.Visit v) marks sizes own q = absurd (let w : ⊥ = omega arith in w)
+first-within (E.Therapy d) marks sizes own q = absurd (let w : ⊥ = omega arith in w)
+first-within (E.Death d) marks sizes own q = absurd (let w : ⊥ = omega arith in w)
+
+opened-within : (r : Record) → refusalOfOpening r ≡ 0 → SubjectWithin (openedSubject r)
+unfolding openedSubject refusalOfOpening
+opened-within r e =
+    let parts = none-of-both r (notBaseline (r .entry)) .0 e in
+    rw (eq-eqb (refusalOfOpening r) 0 e) (first-within (r .entry) (r .marks) (r .sizes) (passes r false false (parts .0)) (parts .1))
+
+pub opened-in-range : {r : Record} {a : OpenAnswer} {s : Subject} → Opened r a s → openNumber a ≡ 0 → inRange s ≡ true
+opened-in-range {r} {a} {s} w z = rw (w .made) (in-range (openedSubject r) (opened-within r (sym (w .answer) ∙ z)))
+
+-- ---- adding
+
+added-in-range : {s t : Subject} {r : Record} {a : AddAnswer} → Added s r a t → inRange s ≡ true → inRange t ≡ true
+unfolding nextSubject refusalHeld
+added-in-range {s} {t} {r} w h = rw (w .left) (go (eqb (refusalHeld s r) 0) refl)
+  where
+    go : (x : Bool) → eqb (refusalHeld s r) 0 ≡ x → inRange (pick x (entryAdded s (r .entry) (r .marks) (r .sizes)) s) ≡ true
+    go false e = h
+    go true e =
+        let none : afterOwn r (refusalOn s (r .entry) (r .marks)) ≡ 0 = rw h at (eqb-true (refusalHeld s r) 0 e) in
+        in-range (entryAdded s (r .entry) (r .marks) (r .sizes))
+        (adding-within s (r .entry) (r .marks) (r .sizes) (subject-within s h) (none-of-both r (refusalOn s (r .entry) (r .marks)) .0 none .1))
+
+-- ---- reading
+
+or-day-1-within : (m : MaybeDay) → AbsentOrWithin m → Within (orDay1 (dayValue m))
+or-day-1-within M.Absent w = (omega arith, omega arith)
+or-day-1-within (M.On d) w = w
+
+pfs-within : (g t : MaybeDay) (v : ℕ) (e : MaybeDay) → AbsentOrWithin g → AbsentOrWithin t → AbsentOrWithin e →
+    Within (pfsOf (dayValue g) (dayValue t) v (dayValue e) .day)
+pfs-within (M.On d) t v e wg wt we = go (twoMissed (d .0) v)
+  where
+    go : (x : Bool) → Within (pick x (censored (orDay1 (dayValue e))) (event (d .0)) .day)
+    go true = or-day-1-within e we
+    go false = wg
+pfs-within M.Absent (M.On d) v M.Absent wg wt we = go (leb (d .0 - 1) earlyDeath)
+  where
+    go : (x : Bool) → Within (pick x (event (d .0)) (censored 1) .day)
+    go true = wt
+    go false = (omega arith, omega arith)
+pfs-within M.Absent (M.On d) v (M.On e) wg wt we = go (twoMissed (d .0) v)
+  where
+    go : (x : Bool) → Within (pick x (censored (e .0)) (event (d .0)) .day)
+    go true = we
+    go false = wt
+pfs-within M.Absent M.Absent v e wg wt we = or-day-1-within e we
+
+duration-within : (best : Word) (f : MaybeDay) (p : Pfs) → AbsentOrWithin f → Within (p .day) → DurationWithin (durationOf best (dayValue f) p)
+duration-within best M.Absent p wf wp = tt
+duration-within best (M.On d) p wf wp = go (isResponse best)
+  where
+    go : (x : Bool) → DurationWithin (pick x (forDays (p .status) (p .day - d .0 + 1)) noDuration)
+    go true = (omega arith, omega (arith, wf, wp))
+    go false = tt
+
+pub reading-in-range : (s : Subject) → inRange s ≡ true → readingOf s ≡ outcome (outcomeOf s)
+unfolding readingOf
+reading-in-range s h = rw h
+
+tells-within : (s : Subject) → SubjectWithin s → TellsWithin (outcome (outcomeOf s))
+unfolding outcomeOf
+tells-within s w =
+    let p = pfs-within (s .event .progression) (s .death) (s .event .previous .0) (s .event .evaluable) (w .event .progression) (w .death) (w .event .evaluable) in
+    (p, duration-within (bestHeld s) (s .counted .first) (pfsHeld s) (w .counted .first) p)
+
+pub calls-in-range : CallsInRange
+unfolding openedSubject nextSubject refusalHeld readingOf
+calls-in-range =
+    record {
+      opened = opened-in-range;
+      notOpened = λ {r} w n. w .made ∙ rw (ne-eqb (refusalOfOpening r) 0 (λ e. n (w .answer ∙ e)));
+      added = added-in-range;
+      notAdded = λ {s} {t} {r} w n. w .left ∙ rw (ne-eqb (refusalHeld s r) 0 (λ e. n (w .answer ∙ e)));
+      told = λ {s} w h. subst TellsWithin (sym (w .answer ∙ reading-in-range s h)) (tells-within s (subject-within s h));
+      addedOutside = λ w h. w .answer ∙ rw h;
+      toldOutside = λ w h. w .answer ∙ rw h;
+      blankOutside = blank-outside;
+    }

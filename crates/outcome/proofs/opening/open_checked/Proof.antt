@@ -1,0 +1,23 @@
+-- `outcome::opening::open_checked` meets its contract.
+-- Assumes nothing.
+use borrow.Author.Needs.{needs}
+use Rattle.outcome.proofs.Answers.{checked-baseline, checked-visit, checked-therapy, checked-death}
+use Rattle.outcome.proofs.opening.open_checked.Statement.{statement}
+use Rattle.outcome.proofs.opening.open_checked.Tie as tie
+
+pub open-checked-spec : {M : Type 1} → statement M
+open-checked-spec =
+    tie.close
+    (tie.spec
+    (λ c. search needs)
+    (λ c κs. search needs)
+    (λ c. search needs)
+    (λ c κs. search needs)
+    (λ c. search needs)
+    (λ c κs. search needs)
+    (λ c. search needs)
+    (λ c κs. search needs)
+    (λ c. search checked-baseline)
+    (λ c. search checked-visit)
+    (λ c. search checked-therapy)
+    (λ c. search checked-death))

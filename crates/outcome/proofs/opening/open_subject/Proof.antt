@@ -1,0 +1,24 @@
+-- `outcome::opening::open_subject` meets its contract.
+-- Assumes nothing.
+use borrow.Author.Needs.{needs}
+use Rattle.outcome.proofs.Answers.{opens-without-date, opens-outside, opens-not-zero, opens-passed}
+use Rattle.outcome.proofs.opening.open_subject.Statement.{statement}
+use Rattle.outcome.proofs.opening.open_subject.Tie as tie
+
+pub open-subject-spec : {M : Type 1} → statement M
+open-subject-spec =
+    tie.close
+    (tie.spec
+    (λ c κs. search needs)
+    (λ c. search needs)
+    (λ c κs. search needs)
+    (λ c. search needs)
+    (λ c κs. search needs)
+    (λ c. search needs)
+    (λ c κs. search needs)
+    (λ c. search needs)
+    (λ c κs. search needs)
+    (λ c. opens-without-date _ (record { sizes = search needs; marks = search needs }) _ (c .before .before .before .check .ensures) _ (c .before .enum-told .given .1) (c .refused .ensures))
+    (λ c. opens-outside _ (record { sizes = search needs; marks = search needs }) _ (c .before .before .before .check .ensures) _ (c .before .enum-told2 .given .1) (c .refused2 .ensures))
+    (λ c. opens-not-zero _ (record { sizes = search needs; marks = search needs }) _ (c .before .before .before .check .ensures) _ (c .before .enum-told3 .given .1) (c .refused3 .ensures))
+    (λ c. opens-passed _ (record { sizes = search needs; marks = search needs }) _ (c .before .before .before .check .ensures) _ (c .before .enum-told4 .given .1) (c .open-checked .ensures)))

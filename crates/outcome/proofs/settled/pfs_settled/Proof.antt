@@ -1,0 +1,12 @@
+-- `outcome::settled::pfs_settled` meets its contract.
+-- Assumes nothing.
+use Rattle.outcome.proofs.Answers.{assessed-settled, missing-settled}
+use Rattle.outcome.proofs.settled.pfs_settled.Statement.{statement}
+use Rattle.outcome.proofs.settled.pfs_settled.Tie as tie
+
+pub pfs-settled-spec : {M : Type 1} → statement M
+pfs-settled-spec =
+    tie.close
+    (tie.spec
+    (λ c. search assessed-settled)
+    (λ c. search missing-settled))

@@ -1,0 +1,100 @@
+-- Document 01, demand 3, with "Settled" and "Contracts" c: one claim about a whole list of calls on one subject. Proved in proofs/Demand.antt.
+-- Assumes nothing.
+use mathlib.Core.Path.{_≡_}
+use mathlib.Core.Bool.{true}
+use mathlib.Core.List.{List, [], _∷_}
+use mathlib.Core.Logic.{_↔_}
+use Prim.Native.Nat.{ℕ}
+use Rattle.records.specs.declared.Record.{Record}
+use Rattle.endpoints.specs.Values.{Outcome}
+use Rattle.endpoints.specs.StudyRecords.{Baseline, StudyRecord, baseline, visit, therapy, death, onStudyDays}
+use Rattle.endpoints.specs.Lawful.{lawful}
+use Rattle.endpoints.specs.Lasting.{outcomeInOrder, LastsInOrder}
+use Rattle.endpoints.specs.Adding.{refusalOfAdding, Call, add, read, acceptedAfter, accepted}
+use Rattle.held.specs.declared.Subject.{Subject}
+use Rattle.placing.specs.declared.AddAnswer.{AddAnswer}
+use Rattle.placing.specs.Refusals.{addNumber}
+use Rattle.outcome.specs.declared.OpenAnswer.{OpenAnswer}
+use Rattle.outcome.specs.declared.OutcomeAnswer.{OutcomeAnswer}
+use Rattle.outcome.specs.Promises.{openNumber, Opened, Added, Reading, refused, outcome, readingValues, Told}
+
+-- what a call replies, in the paper's numbers and values: an addition 0 where it is done or the refusal's number, a reading the outcome or a refusal
+pub data Reply : Type 0 where
+  added : ℕ → Reply
+  told : Reading → Reply
+
+-- a list of calls, from the subject before the first of them to the subject after the last, with their replies. Of each call nothing is known but its
+-- promise, which its `ensures` cites whole.
+pub data Calls : Subject → List Call → List Reply → Subject → Type 0 where
+  none : {s : Subject} → Calls s [] [] s
+  adds : {s t u : Subject} {r : Record} {a : AddAnswer} {cs : List Call} {ys : List Reply} →
+      Added s r a t → Calls t cs ys u → Calls s (add r ∷ cs) (added (addNumber a) ∷ ys) u
+  reads : {s u : Subject} {o : OutcomeAnswer} {cs : List Call} {ys : List Reply} →
+      Told s o → Calls s cs ys u → Calls s (read ∷ cs) (told (readingValues o) ∷ ys) u
+
+-- the paper's outcome of a list of records in the order recorded; every list of accepted records opens with a baseline, and any other is refused by 7
+abbrev pub outcomeOn : List StudyRecord → Reading
+outcomeOn [] = refused 7
+outcomeOn (baseline b ∷ rs) = outcome (outcomeInOrder b rs)
+outcomeOn (visit d v ∷ rs) = refused 7
+outcomeOn (therapy d ∷ rs) = refused 7
+outcomeOn (death d ∷ rs) = refused 7
+
+-- the replies from the calls' arguments alone: done, or the first refusal judged against the records accepted so far; their outcome with its marks
+abbrev pub repliesAfter : List Record → List Call → List Reply
+repliesAfter rs [] = []
+repliesAfter rs (add r ∷ cs) = added (refusalOfAdding rs r) ∷ repliesAfter (acceptedAfter rs (add r ∷ [])) cs
+repliesAfter rs (read ∷ cs) = told (outcomeOn (onStudyDays rs)) ∷ repliesAfter rs cs
+
+abbrev pub replies : Record → List Call → List Reply
+replies b cs = repliesAfter (b ∷ []) cs
+
+-- 12 meets no call
+abbrev pub Without12 : List Reply → Type 0
+Without12 [] = Unit {0}
+Without12 (added n ∷ ys) = (n ≡ 12 → ⊥) × Without12 ys
+Without12 (told (refused n) ∷ ys) = ⊥
+Without12 (told (outcome o) ∷ ys) = Without12 ys
+
+-- what a reading says of a baseline and the records behind it: its parts are the paper's outcome, and each mark that it reports is true exactly when no
+-- lawful run of further records changes its part
+pub record Says (said : Outcome) (b : Baseline) (rs : List StudyRecord) : Type 0 where
+  pub pfs : said .pfs ≡ outcomeInOrder b rs .pfs
+  pub best : said .best ≡ outcomeInOrder b rs .best
+  pub duration : said .duration ≡ outcomeInOrder b rs .duration
+  pub pfsMark : (said .pfsSettled ≡ true) ↔ LastsInOrder (λ (o : Outcome). o .pfs) b rs
+  pub bestMark : (said .bestSettled ≡ true) ↔ LastsInOrder (λ (o : Outcome). o .best) b rs
+  pub durationMark : (said .durationSettled ≡ true) ↔ LastsInOrder (λ (o : Outcome). o .duration) b rs
+
+-- the reading is no refusal, and the list opens with a baseline
+abbrev pub SaysOn : Reading → List StudyRecord → Type 0
+SaysOn (refused n) rs = ⊥
+SaysOn (outcome said) [] = ⊥
+SaysOn (outcome said) (baseline b ∷ rs) = Says said b rs
+SaysOn (outcome said) (visit d v ∷ rs) = ⊥
+SaysOn (outcome said) (therapy d ∷ rs) = ⊥
+SaysOn (outcome said) (death d ∷ rs) = ⊥
+
+abbrev pub Claim : OutcomeAnswer → List Record → Type 0
+Claim o rs = SaysOn (readingValues o) (onStudyDays rs)
+
+-- of a baseline opened with, the calls, their replies and a reading after the last of them
+pub record Holds (b : Record) (cs : List Call) (ys : List Reply) (o : OutcomeAnswer) : Type 0 where
+  pub replied : ys ≡ replies b cs
+  pub without12 : Without12 ys
+  pub lawfully : lawful (onStudyDays (accepted b cs)) ≡ true
+  pub claim : Claim o (accepted b cs)
+
+-- some replies and some subject come of a list of calls
+pub record Runs (s : Subject) (cs : List Call) : Type 0 where
+  pub replied : List Reply
+  pub last : Subject
+  pub calls : Calls s cs replied last
+
+-- from the subject that an accepted opening made
+pub record Demand3 : Type 0 where
+  pub holds : {b : Record} {a : OpenAnswer} {s t : Subject} {cs : List Call} {ys : List Reply} {o : OutcomeAnswer} →
+      Opened b a s → openNumber a ≡ 0 → Calls s cs ys t → Told t o → Holds b cs ys o
+  -- every list of calls runs, with a reading after it
+  pub callsExist : {b : Record} {a : OpenAnswer} {s : Subject} → Opened b a s → openNumber a ≡ 0 → (cs : List Call) → Runs s cs
+  pub readingExists : (s : Subject) → (o : OutcomeAnswer) × Told s o

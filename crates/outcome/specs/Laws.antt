@@ -1,0 +1,38 @@
+-- Document 01, "Where a call stops" and "Contracts" a: refusals and ranges, for every record value and every subject. Proved in proofs/Within.antt.
+-- Assumes nothing.
+use mathlib.Core.Path.{_≡_}
+use mathlib.Core.Bool.{true, false}
+use Rattle.records.specs.declared.Record.{Record}
+use Rattle.endpoints.specs.Values.{Duration, noDuration, forDays}
+use Rattle.held.specs.declared.Subject.{Subject}
+use Rattle.held.specs.Range.{inRange}
+use Rattle.held.specs.Opening.{blank}
+use Rattle.held.specs.Laws.{Within}
+use Rattle.placing.specs.declared.AddAnswer.{AddAnswer}
+use Rattle.placing.specs.Refusals.{addNumber}
+use Rattle.outcome.specs.declared.OpenAnswer.{OpenAnswer}
+use Rattle.outcome.specs.declared.OutcomeAnswer.{OutcomeAnswer}
+use Rattle.outcome.specs.Promises.{openNumber, Opened, Added, Reading, refused, outcome, readingValues, Told}
+
+abbrev pub DurationWithin : Duration → Type 0
+DurationWithin noDuration = Unit {0}
+DurationWithin (forDays status days) = Within days
+
+-- no refusal, and every day and duration from 1 to 40,177
+abbrev pub TellsWithin : Reading → Type 0
+TellsWithin (refused n) = ⊥
+TellsWithin (outcome o) = Within (o .pfs .day) × DurationWithin (o .duration)
+
+pub record CallsInRange : Type 0 where
+  -- an accepted opening makes a subject in range, and beside a refused one stands the blank
+  pub opened : {r : Record} {a : OpenAnswer} {s : Subject} → Opened r a s → openNumber a ≡ 0 → inRange s ≡ true
+  pub notOpened : {r : Record} {a : OpenAnswer} {s : Subject} → Opened r a s → (openNumber a ≡ 0 → ⊥) → s ≡ blank
+  -- adding leaves every subject in range in range, and keeps every value where it refuses
+  pub added : {s t : Subject} {r : Record} {a : AddAnswer} → Added s r a t → inRange s ≡ true → inRange t ≡ true
+  pub notAdded : {s t : Subject} {r : Record} {a : AddAnswer} → Added s r a t → (addNumber a ≡ 0 → ⊥) → t ≡ s
+  -- every day and duration read from a subject in range is in range
+  pub told : {s : Subject} {o : OutcomeAnswer} → Told s o → inRange s ≡ true → TellsWithin (readingValues o)
+  -- 12 meets every other subject, the blank among them, before the record
+  pub addedOutside : {s t : Subject} {r : Record} {a : AddAnswer} → Added s r a t → inRange s ≡ false → addNumber a ≡ 12
+  pub toldOutside : {s : Subject} {o : OutcomeAnswer} → Told s o → inRange s ≡ false → readingValues o ≡ refused 12
+  pub blankOutside : inRange blank ≡ false

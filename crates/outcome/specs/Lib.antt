@@ -1,0 +1,3 @@
+pub mod Promises
+pub mod Demand3
+pub mod Laws

@@ -1,0 +1,51 @@
+// One record more, by value and where the caller keeps the subject.
+use held::Subject;
+use placing::AddAnswer;
+use placing::AddResult;
+use records::CheckAnswer;
+use records::Record;
+ghost use mathlib.Core.Path.{_≡_};
+ghost use Rattle.outcome.specs.Promises.{Added};
+
+fn refused(s: Subject, answer: AddAnswer) -> AddResult
+    ensures { λ x. ⌜ (x .answer ≡ answer) × (x .subject ≡ s) ⌝ }
+{
+    AddResult {
+        subject: s,
+        answer: answer,
+    }
+}
+
+fn step(s: Subject, r: Record) -> AddResult
+    ensures { λ x. ⌜ Added s r (x .answer) (x .subject) ⌝ }
+{
+    if !held::in_range(s) {
+        return refused(s, AddAnswer::OutOfRange);
+    }
+    match records::check(r) {
+        CheckAnswer::NoSuchDate => refused(s, AddAnswer::NoSuchDate),
+        CheckAnswer::OutsideLimits => refused(s, AddAnswer::OutsideLimits),
+        CheckAnswer::NotZero => refused(s, AddAnswer::NotZero),
+        CheckAnswer::Passed => placing::place(s, r),
+    }
+}
+
+pub fn add(subject: &mut Subject, r: Record) -> AddAnswer
+    ensures { λ a. ⌜ Added (now (subject .entry)) r a (now (subject .exit)) ⌝ }
+{
+    let next = step(*subject, r);
+    *subject = next.subject;
+    next.answer
+}
+
+// The same on a subject by value.
+pub fn added(s: Subject, r: Record) -> AddResult
+    ensures { λ x. ⌜ Added s r (x .answer) (x .subject) ⌝ }
+{
+    let mut held = s;
+    let answer = add(&mut held, r);
+    AddResult {
+        subject: held,
+        answer: answer,
+    }
+}

@@ -1,0 +1,125 @@
+-- The held subject follows the list of the records: 8 to 11 are judged on it as against the list, and one record more makes of it what the longer list gives.
+-- Assumes nothing.
+use mathlib.Core.Path.{_≡_, refl, sym, ap}
+use mathlib.Core.Bool.{Bool, true, false}
+use mathlib.Core.List.{List, [], _∷_}
+use Prim.Native.Nat.{ℕ}
+use Rattle.laws.specs.Choice.{either, pick}
+use Rattle.laws.proofs.Tests.{never}
+use Rattle.dates.specs.declared.Date.{Date}
+use Rattle.records.specs.declared.BaselineEntry.{BaselineEntry}
+use Rattle.records.specs.declared.Entry.{Entry}
+use Rattle.records.specs.declared.Entry.the-variants as E
+use Rattle.criteria.specs.Inputs.{Visit}
+use Rattle.criteria.specs.Nadir.{leftBy}
+use Rattle.criteria.proofs.Laws.{nadir-laws}
+use Rattle.endpoints.specs.Values.{Day, on, isRecorded, _orElse_}
+use Rattle.endpoints.specs.StudyRecords.{Baseline, baseline, disease, studyDay, entryOnStudyDay}
+use Rattle.endpoints.specs.Lawful.{Past, latestDay, deathDay, fits, lawfulBehind}
+use Rattle.endpoints.specs.Visits.{visitsOf, therapyRecorded, Judged, judge, judged, progression, countingClosed, counting}
+use Rattle.endpoints.specs.Adding.{refusalBehind}
+use Rattle.endpoints.proofs.Behind.{absent, next, latest-is-last}
+use Rattle.held.specs.declared.Subject.{Subject}
+use Rattle.held.specs.Opening.{firstSubject}
+use Rattle.held.specs.Visits.{countedAfter}
+use Rattle.held.proofs.Ordered.{Falling, counting-falls}
+use Rattle.held.proofs.Follows.{at, maybe, day-of-maybe, eventOf, countedOf, event-follows, counted-follows}
+use Rattle.placing.specs.Added.{answerOn, visitAdded, therapyAdded, deathAdded, entryAdded}
+use Rattle.placing.specs.Refusals.{refusalOn}
+
+-- what is held after a baseline and the records behind it
+unfoldable pub summary : Date → Baseline → Past → Subject
+summary randomisation b p =
+    record {
+      randomisation = randomisation;
+      nontarget = b .nontarget;
+      baseline = disease b;
+      earlier = leftBy (disease b) (visitsOf p);
+      latest = at (latestDay p);
+      therapy = therapyRecorded p;
+      death = maybe (deathDay p);
+      event = eventOf (judged b p);
+      counted = countedOf (counting b p);
+    }
+
+abbrev pub baselineOf : BaselineEntry → List Bool → List ℕ → Baseline
+baselineOf b nodes sizes = record { assessed = b .assessed; nontarget = b .nontarget; count = b .count; nodes = nodes; sizes = sizes }
+
+pub opening-follows : (b : BaselineEntry) (nodes : List Bool) (sizes : List ℕ) →
+    firstSubject b nodes sizes ≡ summary (b .date) (baselineOf b nodes sizes) []
+unfolding firstSubject summary eventOf countedOf
+opening-follows b nodes sizes = refl
+
+module _ (randomisation : Date) (b : Baseline) (p : Past) where
+  pub refusal-follows : (e : Entry) (marks : List Bool) (sizes : List ℕ) →
+      refusalOn (summary randomisation b p) e marks ≡ refusalBehind b p (entryOnStudyDay randomisation e marks sizes)
+  unfolding refusalOn refusalBehind summary fits
+  refusal-follows (E.Baseline x) marks sizes = refl
+  refusal-follows (E.Visit v) marks sizes = rw (day-of-maybe (deathDay p))
+  refusal-follows (E.Therapy d) marks sizes = rw (day-of-maybe (deathDay p))
+  refusal-follows (E.Death d) marks sizes = rw (day-of-maybe (deathDay p))
+
+  counted-unless-closed : (x y : Bool) (j : Judged) → x ≡ y → Falling (counting b p) →
+      pick x (countedOf (counting b p)) (countedAfter (countedOf (counting b p)) (at (j .day)) (j .answer)) ≡ countedOf (pick y (counting b p) (j ∷ counting b p))
+  counted-unless-closed x y j e s = rw e (go y)
+    where
+      go : (y : Bool) →
+          pick y (countedOf (counting b p)) (countedAfter (countedOf (counting b p)) (at (j .day)) (j .answer)) ≡ countedOf (pick y (counting b p) (j ∷ counting b p))
+      go true = refl
+      go false = counted-follows j (counting b p) s
+
+  pub adding-follows : (e : Entry) (marks : List Bool) (sizes : List ℕ) → lawfulBehind b (entryOnStudyDay randomisation e marks sizes ∷ p) ≡ true →
+      entryAdded (summary randomisation b p) e marks sizes ≡ summary randomisation b (entryOnStudyDay randomisation e marks sizes ∷ p)
+  unfolding summary visitAdded therapyAdded deathAdded answerOn judge eventOf
+  adding-follows (E.Baseline x) marks sizes l = absurd (never (sym (next b p (entryOnStudyDay randomisation (E.Baseline x) marks sizes) l .place)))
+  adding-follows (E.Visit v) marks sizes l =
+      let r = entryOnStudyDay randomisation (E.Visit v) marks sizes in
+      let visited : Visit = record { status = v .status; newLesion = v .newlesion; measured = marks; sizes = sizes } in
+      let j = judge b p (studyDay randomisation (v .date)) visited in
+      let closed = ap (λ (x : Day). either (therapyRecorded p) (isRecorded x)) (day-of-maybe (progression b p)) in
+      let earlier = sym (nadir-laws .oneMore (disease b) (visitsOf p) visited) in
+      let latest = ap at (sym (latest-is-last b p r l)) in
+      let event = event-follows j (judged b p) in
+      let counted = counted-unless-closed _ (countingClosed b p) j closed (counting-falls b p (next b p r l .before) .1) in
+      λ i.
+      record {
+        randomisation = randomisation;
+        nontarget = b .nontarget;
+        baseline = disease b;
+        earlier = earlier i;
+        latest = latest i;
+        therapy = therapyRecorded p;
+        death = maybe (deathDay p);
+        event = event i;
+        counted = counted i;
+      }
+  adding-follows (E.Therapy d) marks sizes l =
+      let latest = ap at (sym (latest-is-last b p (entryOnStudyDay randomisation (E.Therapy d) marks sizes) l)) in
+      λ i.
+      record {
+        randomisation = randomisation;
+        nontarget = b .nontarget;
+        baseline = disease b;
+        earlier = leftBy (disease b) (visitsOf p);
+        latest = latest i;
+        therapy = true;
+        death = maybe (deathDay p);
+        event = eventOf (judged b p);
+        counted = countedOf (counting b p);
+      }
+  adding-follows (E.Death d) marks sizes l =
+      let r = entryOnStudyDay randomisation (E.Death d) marks sizes in
+      let latest = ap at (sym (latest-is-last b p r l)) in
+      let death = ap (λ (x : Day). maybe (x orElse on (studyDay randomisation d))) (sym (absent (deathDay p) (next b p r l .alive))) in
+      λ i.
+      record {
+        randomisation = randomisation;
+        nontarget = b .nontarget;
+        baseline = disease b;
+        earlier = leftBy (disease b) (visitsOf p);
+        latest = latest i;
+        therapy = therapyRecorded p;
+        death = death i;
+        event = eventOf (judged b p);
+        counted = countedOf (counting b p);
+      }

@@ -1,0 +1,119 @@
+-- One record more keeps a held subject in range, whether a list leads to it or not.
+-- Assumes nothing.
+use mathlib.Core.Path.{_≡_, refl}
+use mathlib.Core.Bool.{Bool, true, false}
+use mathlib.Core.List.{List}
+use Prim.Native.Nat.{ℕ, _+_, _-_, _≤_, min}
+use native.Mathlib.Omega.{arith}
+use lib.Dec.{leb, eqb}
+use borrow.Author.Tests.{leb-false, ltb-false}
+use Rattle.laws.specs.Choice.{both, pick}
+use Rattle.laws.proofs.Tests.{both-true}
+use Rattle.dates.specs.declared.Date.{Date}
+use Rattle.dates.specs.Calendar.{lastDayNumber, dateExists, dayNumber}
+use Rattle.dates.specs.Answers.{counted, refused, studyDayOf}
+use Rattle.dates.proofs.Calendar.{calendar-laws}
+use Rattle.records.specs.declared.Entry.{Entry}
+use Rattle.records.specs.declared.Entry.the-variants as E
+use Rattle.records.specs.Form.{kindNumber}
+use Rattle.criteria.specs.Sums.{measuredSum, allMeasured}
+use Rattle.criteria.specs.Nadir.{afterVisit}
+use Rattle.criteria.specs.declared.Earlier.{Earlier}
+use Rattle.endpoints.specs.Values.{isRecorded, dayValue}
+use Rattle.endpoints.specs.StudyRecords.{studyDay}
+use Rattle.held.specs.declared.Subject.{Subject}
+use Rattle.held.specs.declared.CountedVisits.{CountedVisits}
+use Rattle.held.specs.Laws.{Within, CountedWithin, SubjectWithin}
+use Rattle.held.proofs.Within.{event-within, counted-within}
+use Rattle.placing.specs.Added.{heldDay, answerOn, closedOn, visitAdded, therapyAdded, deathAdded, entryAdded}
+use Rattle.placing.specs.Refusals.{earlyOn, misfitOn, refusalOn}
+
+study-day-most : (randomisation d : Date) → studyDay randomisation d ≤ lastDayNumber
+unfolding studyDayOf
+study-day-most randomisation d = go (both (dateExists d) (dateExists randomisation)) refl (leb (dayNumber randomisation) (dayNumber d))
+  where
+    go : (x : Bool) → both (dateExists d) (dateExists randomisation) ≡ x → (y : Bool) →
+        pick x (pick y (counted (dayNumber d - dayNumber randomisation + 1)) (refused 10)) (refused 3) .day ≤ lastDayNumber
+    go true e true =
+        let exist = both-true (dateExists d) _ e in
+        let last = calendar-laws .inRange d (exist .0) .1 in
+        let first = calendar-laws .inRange randomisation (exist .1) .0 in
+        omega arith
+    go true e false = omega arith
+    go false e y = omega arith
+
+-- no refusal, so not too early
+in-time : (baseline dead early misfit : Bool) → _≡_ {A = ℕ} (pick baseline 8 (pick dead 9 (pick early 10 (pick misfit 11 0)))) 0 → early ≡ false
+in-time true dead early misfit e = absurd (let w : ⊥ = omega arith in w)
+in-time false true early misfit e = absurd (let w : ⊥ = omega arith in w)
+in-time false false true misfit e = absurd (let w : ⊥ = omega arith in w)
+in-time false false false misfit e = refl
+
+not-early : (s : Subject) (e : Entry) (marks : List Bool) → refusalOn s e marks ≡ 0 → earlyOn s e ≡ false
+unfolding refusalOn
+not-early s e marks r = in-time (eqb (kindNumber e) 1) (isRecorded (dayValue (s .death))) (earlyOn s e) (misfitOn s e marks) r
+
+nadir-least : (count : ℕ) (earlier : Earlier) (measured : List Bool) (sizes : List ℕ) →
+    afterVisit count earlier measured sizes .nadir ≤ earlier .nadir
+unfolding afterVisit
+nadir-least count earlier measured sizes = go (allMeasured count measured)
+  where
+    go : (x : Bool) → pick x (min (measuredSum measured sizes) (earlier .nadir)) (earlier .nadir) ≤ earlier .nadir
+    go true = omega arith
+    go false = omega arith
+
+pub adding-within : (s : Subject) (e : Entry) (marks : List Bool) (sizes : List ℕ) → SubjectWithin s → refusalOn s e marks ≡ 0 →
+    SubjectWithin (entryAdded s e marks sizes)
+unfolding visitAdded therapyAdded deathAdded
+adding-within s (E.Baseline b) marks sizes w r = w
+adding-within s (E.Visit v) marks sizes w r =
+    let most = study-day-most (s .randomisation) (v .date) in
+    let later = leb-false (studyDay (s .randomisation) (v .date)) (s .latest .0) (not-early s (E.Visit v) marks r) in
+    let from = w .latest .0 in
+    let day : Within (studyDay (s .randomisation) (v .date)) = (omega arith, most) in
+    let held = heldDay (s .randomisation) (v .date) in
+    let answer = answerOn s v marks sizes in
+    let least = nadir-least (s .baseline .count) (s .earlier) marks sizes in
+    let nadir = w .nadir in
+    record {
+      randomisation = w .randomisation;
+      count = w .count;
+      sum = w .sum;
+      nadir = omega arith;
+      latest = day;
+      death = w .death;
+      event = event-within held day (s .event) answer (w .event);
+      counted = counted-or-not (closedOn s) (counted-within held day (s .counted) answer (w .counted));
+    }
+  where
+    counted-or-not : {c : CountedVisits} (x : Bool) → CountedWithin c → CountedWithin (pick x (s .counted) c)
+    counted-or-not true k = w .counted
+    counted-or-not false k = k
+adding-within s (E.Therapy d) marks sizes w r =
+    let most = study-day-most (s .randomisation) d in
+    let later = ltb-false (studyDay (s .randomisation) d) (s .latest .0) (not-early s (E.Therapy d) marks r) in
+    let from = w .latest .0 in
+    record {
+      randomisation = w .randomisation;
+      count = w .count;
+      sum = w .sum;
+      nadir = w .nadir;
+      latest = (omega arith, most);
+      death = w .death;
+      event = w .event;
+      counted = w .counted;
+    }
+adding-within s (E.Death d) marks sizes w r =
+    let most = study-day-most (s .randomisation) d in
+    let later = ltb-false (studyDay (s .randomisation) d) (s .latest .0) (not-early s (E.Death d) marks r) in
+    let from = w .latest .0 in
+    record {
+      randomisation = w .randomisation;
+      count = w .count;
+      sum = w .sum;
+      nadir = w .nadir;
+      latest = (omega arith, most);
+      death = (omega arith, most);
+      event = w .event;
+      counted = w .counted;
+    }

@@ -1,0 +1,15 @@
+-- `placing::fitting::fits` meets its contract.
+-- Assumes nothing.
+use borrow.Author.Needs.{needs}
+use Rattle.placing.proofs.Answers.{fits-nontarget, fits-no-nontarget}
+use Rattle.placing.proofs.fitting.fits.Statement.{statement}
+use Rattle.placing.proofs.fitting.fits.Tie as tie
+
+pub fits-spec : {M : Type 1} → statement M
+fits-spec =
+    tie.close
+    (tie.spec
+    (λ c κs. search needs)
+    (λ c κs. search needs)
+    (λ c. search fits-nontarget)
+    (λ c. search fits-no-nontarget))

@@ -1,0 +1,22 @@
+-- `placing::refusals::place_visit` meets its contract.
+-- Assumes nothing.
+use borrow.Author.Needs.{needs}
+use Rattle.placing.proofs.Answers.{visit-after-death, visit-early, visit-misfit, visit-placed}
+use Rattle.placing.proofs.refusals.place_visit.Statement.{statement}
+use Rattle.placing.proofs.refusals.place_visit.Tie as tie
+
+pub place-visit-spec : {M : Type 1} → statement M
+place-visit-spec =
+    tie.close
+    (tie.spec
+    (λ c κs. search needs)
+    (λ c κs. search needs)
+    (λ c. search visit-after-death)
+    (λ c κs. search needs)
+    (λ c κs. search needs)
+    (λ c. search visit-early)
+    (λ c κs. search needs)
+    (λ c κs. search needs)
+    (λ c. search visit-misfit)
+    (λ c κs. search needs)
+    (λ c. search visit-placed))

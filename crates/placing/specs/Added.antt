@@ -1,0 +1,82 @@
+-- Document 01, "Visit responses" and "Outcome": what is held after one record more.
+-- Assumes nothing.
+use Prim.Native.Nat.{ℕ}
+use mathlib.Core.Bool.{Bool, true}
+use mathlib.Core.List.{List}
+use Rattle.laws.specs.Choice.{either, pick}
+use Rattle.dates.specs.declared.Date.{Date}
+use Rattle.dates.specs.declared.StudyDay.{StudyDay}
+use Rattle.records.specs.declared.Entry.{Entry}
+use Rattle.records.specs.declared.Entry.the-variants as E
+use Rattle.records.specs.declared.VisitEntry.{VisitEntry}
+use Rattle.criteria.specs.Words.{Word, statusWord}
+use Rattle.criteria.specs.Targets.{targetAnswer}
+use Rattle.criteria.specs.Nadir.{afterVisit}
+use Rattle.criteria.specs.Overall.{overallAnswer}
+use Rattle.endpoints.specs.declared.MaybeDay.the-variants as M
+use Rattle.endpoints.specs.Values.{isRecorded, dayValue}
+use Rattle.endpoints.specs.StudyRecords.{studyDay}
+use Rattle.held.specs.declared.Subject.{Subject}
+use Rattle.held.specs.Visits.{eventAfter, countedAfter}
+
+-- the study day of a date; 0, which is no study day, where it is before randomisation
+abbrev pub heldDay : Date → Date → StudyDay
+heldDay randomisation d = record { 0 = studyDay randomisation d }
+
+-- the overall answer at a visit
+unfoldable pub answerOn : Subject → VisitEntry → List Bool → List ℕ → Word
+answerOn s v measured sizes =
+    overallAnswer (s .baseline .assessed) (v .newlesion) (targetAnswer (s .baseline) (s .earlier) measured sizes) (statusWord (v .status))
+
+-- no further visit counts
+abbrev pub closedOn : Subject → Bool
+closedOn s = either (s .therapy) (isRecorded (dayValue (s .event .progression)))
+
+unfoldable pub visitAdded : Subject → StudyDay → VisitEntry → List Bool → List ℕ → Subject
+visitAdded s day v measured sizes =
+    record {
+      randomisation = s .randomisation;
+      nontarget = s .nontarget;
+      baseline = s .baseline;
+      earlier = afterVisit (s .baseline .count) (s .earlier) measured sizes;
+      latest = day;
+      therapy = s .therapy;
+      death = s .death;
+      event = eventAfter (s .event) day (answerOn s v measured sizes);
+      counted = pick (closedOn s) (s .counted) (countedAfter (s .counted) day (answerOn s v measured sizes));
+    }
+
+unfoldable pub therapyAdded : Subject → StudyDay → Subject
+therapyAdded s day =
+    record {
+      randomisation = s .randomisation;
+      nontarget = s .nontarget;
+      baseline = s .baseline;
+      earlier = s .earlier;
+      latest = day;
+      therapy = true;
+      death = s .death;
+      event = s .event;
+      counted = s .counted;
+    }
+
+unfoldable pub deathAdded : Subject → StudyDay → Subject
+deathAdded s day =
+    record {
+      randomisation = s .randomisation;
+      nontarget = s .nontarget;
+      baseline = s .baseline;
+      earlier = s .earlier;
+      latest = day;
+      therapy = s .therapy;
+      death = M.On day;
+      event = s .event;
+      counted = s .counted;
+    }
+
+-- the subject after a record; no baseline comes to be added
+abbrev pub entryAdded : Subject → Entry → List Bool → List ℕ → Subject
+entryAdded s (E.Baseline b) marks sizes = s
+entryAdded s (E.Visit v) marks sizes = visitAdded s (heldDay (s .randomisation) (v .date)) v marks sizes
+entryAdded s (E.Therapy d) marks sizes = therapyAdded s (heldDay (s .randomisation) d)
+entryAdded s (E.Death d) marks sizes = deathAdded s (heldDay (s .randomisation) d)

@@ -1,0 +1,65 @@
+-- Document 01, "Where a call stops", 8 to 11, judged on the held subject.
+-- Assumes nothing.
+use Prim.Native.Nat.{ℕ}
+use mathlib.Core.Path.{_≡_}
+use mathlib.Core.Bool.{Bool, false, not}
+use mathlib.Core.List.{List}
+use lib.Dec.{leb, ltb, eqb}
+use Rattle.laws.specs.Choice.{pick}
+use Rattle.records.specs.declared.Entry.{Entry}
+use Rattle.records.specs.declared.Entry.the-variants as E
+use Rattle.records.specs.declared.Record.{Record}
+use Rattle.records.specs.Form.{kindNumber}
+use Rattle.endpoints.specs.Values.{isRecorded, dayValue}
+use Rattle.endpoints.specs.StudyRecords.{studyDay}
+use Rattle.endpoints.specs.Lawful.{fitsBy}
+use Rattle.held.specs.declared.Subject.{Subject}
+use Rattle.placing.specs.declared.AddAnswer.{AddAnswer}
+use Rattle.placing.specs.declared.AddAnswer.the-variants as A
+use Rattle.placing.specs.Added.{entryAdded}
+
+-- the number of each case in document 01; 0 where no refusal meets
+abbrev pub addNumber : AddAnswer → ℕ
+addNumber A.Done = 0
+addNumber A.NoSuchDate = 3
+addNumber A.OutsideLimits = 4
+addNumber A.NotZero = 5
+addNumber A.SecondBaseline = 8
+addNumber A.AfterDeath = 9
+addNumber A.TooEarly = 10
+addNumber A.Misfit = 11
+addNumber A.OutOfRange = 12
+
+-- each visit is later than the latest day so far, each therapy or death on or after it
+abbrev pub earlyOn : Subject → Entry → Bool
+earlyOn s (E.Baseline b) = false
+earlyOn s (E.Visit v) = leb (studyDay (s .randomisation) (v .date)) (s .latest .0)
+earlyOn s (E.Therapy d) = ltb (studyDay (s .randomisation) d) (s .latest .0)
+earlyOn s (E.Death d) = ltb (studyDay (s .randomisation) d) (s .latest .0)
+
+abbrev pub misfitOn : Subject → Entry → List Bool → Bool
+misfitOn s (E.Baseline b) measured = false
+misfitOn s (E.Visit v) measured = not (fitsBy (s .baseline .count) (s .nontarget) (v .status) measured)
+misfitOn s (E.Therapy d) measured = false
+misfitOn s (E.Death d) measured = false
+
+-- 8 a baseline; 9 after a death; 10 day too early; 11 visit doesn't fit baseline; 0 for none
+unfoldable pub refusalOn : Subject → Entry → List Bool → ℕ
+refusalOn s e marks =
+    pick (eqb (kindNumber e) 1) 8
+    (pick (isRecorded (dayValue (s .death))) 9
+    (pick (earlyOn s e) 10
+    (pick (misfitOn s e marks) 11
+    0)))
+
+-- the same subject where a refusal meets
+unfoldable pub entryPlaced : Subject → Entry → List Bool → List ℕ → Subject
+entryPlaced s e marks sizes = pick (eqb (refusalOn s e marks) 0) (entryAdded s e marks sizes) s
+
+-- what placing a record that none of its own refusals meets promises: the first of 8 to 11, and the subject left
+pub record PlacesEntry (s : Subject) (e : Entry) (marks : List Bool) (sizes : List ℕ) (a : AddAnswer) (t : Subject) : Type 0 where
+  pub answer : addNumber a ≡ refusalOn s e marks
+  pub left : t ≡ entryPlaced s e marks sizes
+
+abbrev pub Places : Subject → Record → AddAnswer → Subject → Type 0
+Places s r a t = PlacesEntry s (r .entry) (r .marks) (r .sizes) a t

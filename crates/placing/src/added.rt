@@ -1,0 +1,89 @@
+// The subject after a record.
+use criteria::Overall;
+use dates::StudyDay;
+use endpoints::MaybeDay;
+use held::CountedVisits;
+use held::Subject;
+use held::counted_after;
+use held::event_after;
+use records::VisitEntry;
+use results::is_recorded;
+ghost use mathlib.Core.Path.{_≡_};
+ghost use Rattle.laws.specs.Choice.{pick};
+ghost use Rattle.criteria.specs.Words.{overallWord};
+ghost use Rattle.held.specs.Visits.{countedAfter};
+ghost use Rattle.placing.specs.Added.{visitAdded, therapyAdded, deathAdded};
+
+fn counted_unless(closed: bool, c: CountedVisits, day: StudyDay, answer: Overall) -> CountedVisits
+    ensures { λ r. ⌜ r ≡ pick closed c (countedAfter c day (overallWord answer)) ⌝ }
+{
+    if closed {
+        return c;
+    }
+    counted_after(c, day, answer)
+}
+
+pub(crate) fn with_visit(
+    s: Subject,
+    day: StudyDay,
+    v: VisitEntry,
+    measured: [bool; 5],
+    sizes: [u16; 5],
+) -> Subject
+    ensures { λ r. ⌜ r ≡ visitAdded s day v measured sizes ⌝ }
+{
+    let randomisation = s.randomisation;
+    let baseline = s.baseline;
+    let earlier = s.earlier;
+    let death = s.death;
+    let before = s.event;
+    let progression = before.progression;
+    let counting = s.counted;
+    let judged = response::judge_visit(baseline, earlier, v, measured, sizes);
+    let answer = judged.overall;
+    let after = judged.after;
+    let closed = s.therapy | is_recorded(progression);
+    let event = event_after(before, day, answer);
+    let counted = counted_unless(closed, counting, day, answer);
+    Subject {
+        randomisation: randomisation,
+        nontarget: s.nontarget,
+        baseline: baseline,
+        earlier: after,
+        latest: day,
+        therapy: s.therapy,
+        death: death,
+        event: event,
+        counted: counted,
+    }
+}
+
+pub(crate) fn with_therapy(s: Subject, day: StudyDay) -> Subject
+    ensures { λ r. ⌜ r ≡ therapyAdded s day ⌝ }
+{
+    let mut next = s;
+    next.latest = day;
+    next.therapy = true;
+    next
+}
+
+pub(crate) fn with_death(s: Subject, day: StudyDay) -> Subject
+    ensures { λ r. ⌜ r ≡ deathAdded s day ⌝ }
+{
+    let randomisation = s.randomisation;
+    let baseline = s.baseline;
+    let earlier = s.earlier;
+    let event = s.event;
+    let counted = s.counted;
+    Subject {
+        randomisation: randomisation,
+        nontarget: s.nontarget,
+        baseline: baseline,
+        earlier: earlier,
+        latest: day,
+        therapy: s.therapy,
+        death: MaybeDay::On(day),
+        event: event,
+        counted: counted,
+    }
+}

@@ -1,0 +1,39 @@
+// Whether a visit fits the baseline.
+use records::Status;
+ghost use mathlib.Core.Path.{_≡_};
+ghost use lib.Dec.{eqb};
+ghost use Rattle.records.specs.Form.{statusNumber};
+ghost use Rattle.endpoints.specs.Lawful.{measuredBeyond, fitsBy};
+
+// Joined without a branch, for speed.
+fn measured_beyond(count: u8, measured: [bool; 5]) -> bool
+    ensures { λ r. ⌜ r ≡ measuredBeyond count measured ⌝ }
+{
+    (((((count <= 0) & measured[0]) | ((count <= 1) & measured[1])) | ((count <= 2) & measured[2]))
+        | ((count <= 3) & measured[3]))
+        | ((count <= 4) & measured[4])
+}
+
+fn is_na(status: Status) -> bool
+    ensures { λ r. ⌜ r ≡ eqb (statusNumber status) 0 ⌝ }
+{
+    match status {
+        Status::NA => true,
+        Status::CR => false,
+        Status::NN => false,
+        Status::PD => false,
+        Status::NE => false,
+    }
+}
+
+pub(crate) fn fits(count: u8, nontarget: bool, status: Status, measured: [bool; 5]) -> bool
+    ensures { λ r. ⌜ r ≡ fitsBy count nontarget status measured ⌝ }
+{
+    let beyond = measured_beyond(count, measured);
+    let na = is_na(status);
+    if nontarget {
+        !beyond & !na
+    } else {
+        !beyond & na
+    }
+}

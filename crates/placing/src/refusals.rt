@@ -1,0 +1,111 @@
+// Refusals 8 to 11.
+use super::AddAnswer;
+use super::AddResult;
+use super::added::with_death;
+use super::added::with_therapy;
+use super::added::with_visit;
+use super::fitting::fits;
+use dates::Date;
+use dates::StudyDay;
+use dates::StudyDayAnswer;
+use held::Subject;
+use records::Entry;
+use records::Record;
+use records::VisitEntry;
+use results::is_recorded;
+ghost use mathlib.Core.Path.{_≡_};
+ghost use Rattle.records.specs.declared.Entry.the-variants as E;
+ghost use Rattle.placing.specs.Added.{heldDay};
+ghost use Rattle.placing.specs.Refusals.{PlacesEntry, Places};
+
+fn held_day(randomisation: Date, date: Date) -> StudyDay
+    ensures { λ r. ⌜ r ≡ heldDay randomisation date ⌝ }
+{
+    match dates::study_day(date, randomisation) {
+        StudyDayAnswer::Day(d) => d,
+        StudyDayAnswer::BeforeRandomisation => StudyDay(0),
+        StudyDayAnswer::NoSuchDate => StudyDay(0),
+    }
+}
+
+fn refused(s: Subject, answer: AddAnswer) -> AddResult
+    ensures { λ x. ⌜ (x .answer ≡ answer) × (x .subject ≡ s) ⌝ }
+{
+    AddResult {
+        subject: s,
+        answer: answer,
+    }
+}
+
+fn place_visit(s: Subject, v: VisitEntry, measured: [bool; 5], sizes: [u16; 5]) -> AddResult
+    ensures { λ x. ⌜ PlacesEntry s (E.Visit v) measured sizes (x .answer) (x .subject) ⌝ }
+{
+    let status = v.status;
+    let death = s.death;
+    if is_recorded(death) {
+        return refused(s, AddAnswer::AfterDeath);
+    }
+    let day = held_day(s.randomisation, v.date);
+    if day.0 <= s.latest.0 {
+        return refused(s, AddAnswer::TooEarly);
+    }
+    if !fits(s.baseline.count, s.nontarget, status, measured) {
+        return refused(s, AddAnswer::Misfit);
+    }
+    let next = with_visit(s, day, v, measured, sizes);
+    AddResult {
+        subject: next,
+        answer: AddAnswer::Done,
+    }
+}
+
+fn place_therapy(s: Subject, date: Date, marks: [bool; 5], sizes: [u16; 5]) -> AddResult
+    ensures { λ x. ⌜ PlacesEntry s (E.Therapy date) marks sizes (x .answer) (x .subject) ⌝ }
+{
+    let death = s.death;
+    if is_recorded(death) {
+        return refused(s, AddAnswer::AfterDeath);
+    }
+    let day = held_day(s.randomisation, date);
+    if day.0 < s.latest.0 {
+        return refused(s, AddAnswer::TooEarly);
+    }
+    let next = with_therapy(s, day);
+    AddResult {
+        subject: next,
+        answer: AddAnswer::Done,
+    }
+}
+
+fn place_death(s: Subject, date: Date, marks: [bool; 5], sizes: [u16; 5]) -> AddResult
+    ensures { λ x. ⌜ PlacesEntry s (E.Death date) marks sizes (x .answer) (x .subject) ⌝ }
+{
+    let death = s.death;
+    if is_recorded(death) {
+        return refused(s, AddAnswer::AfterDeath);
+    }
+    let day = held_day(s.randomisation, date);
+    if day.0 < s.latest.0 {
+        return refused(s, AddAnswer::TooEarly);
+    }
+    let next = with_death(s, day);
+    AddResult {
+        subject: next,
+        answer: AddAnswer::Done,
+    }
+}
+
+// The record's own refusals have been judged before.
+pub fn place(s: Subject, r: Record) -> AddResult
+    ensures { λ x. ⌜ Places s r (x .answer) (x .subject) ⌝ }
+{
+    let entry = r.entry;
+    let marks = r.marks;
+    let sizes = r.sizes;
+    match entry {
+        Entry::Baseline(_) => refused(s, AddAnswer::SecondBaseline),
+        Entry::Visit(v) => place_visit(s, v, marks, sizes),
+        Entry::Therapy(date) => place_therapy(s, date, marks, sizes),
+        Entry::Death(date) => place_death(s, date, marks, sizes),
+    }
+}
