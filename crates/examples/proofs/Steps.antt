@@ -1,0 +1,87 @@
+-- A turn of the replay's loop as two calls, and the whole replay as an instance of demand 3.
+-- Assumes nothing.
+use mathlib.Core.Path.{_≡_, sym, ap, _∙_, subst}
+use mathlib.Core.List.{List, _∷_, [], map}
+use Prim.Native.Nat.{ℕ, suc, _+_, _-_, _*_, _/_, _≤_, _<_}
+use native.Mathlib.Omega.{arith}
+use lib.ListN.{length, take, drop}
+use lib.Seq.{drop-drop}
+use mathlib.Core.Bool.{false}
+use Rattle.records.specs.declared.Record.{Record}
+use Rattle.codec.specs.Bytes.{recordLength}
+use Rattle.codec.specs.Reading.{recordOfBytes}
+use Rattle.endpoints.specs.Adding.{refusalOfOpening, Call}
+use Rattle.held.specs.declared.Subject.{Subject}
+use Rattle.held.specs.Range.{inRange}
+use Rattle.held.specs.Opening.{blank}
+use Rattle.placing.specs.declared.AddAnswer.{AddAnswer}
+use Rattle.outcome.specs.declared.OpenAnswer.{OpenAnswer}
+use Rattle.outcome.specs.declared.OutcomeAnswer.{OutcomeAnswer}
+use Rattle.outcome.specs.declared.OutcomeAnswer.the-variants as A
+use Rattle.outcome.specs.Promises.{Opened, Added, Told}
+use Rattle.outcome.specs.Demand3.{Reply, Calls, none, adds, reads}
+use Rattle.outcome.proofs.Within.{calls-in-range}
+use Rattle.outcome.proofs.Demand.{demand3}
+use Rattle.examples.specs.Replay.{parts, recordsIn, callsOf, Replayed}
+
+-- some replies to the calls of the records lead from a subject to another
+pub record Reached (s : Subject) (rs : List Record) (t : Subject) : Type 0 where
+  pub replied : List Reply
+  pub calls : Calls s (callsOf rs) replied t
+
+one-turn : {s t u : Subject} {r : Record} {a : AddAnswer} {o : OutcomeAnswer} {rs : List Record} → Added s r a t → Told t o → Reached t rs u → Reached s (r ∷ rs) u
+one-turn w q c = record { replied = _; calls = adds w (reads q (c .calls)) }
+
+-- the records from number k on, of count in all
+abbrev pub from : List ℕ → ℕ → ℕ → List Record
+from l count k = map recordOfBytes (parts (count - k) (drop (k * recordLength) l))
+
+-- what is left to replay completes the whole
+abbrev pub Goes : List ℕ → ℕ → Subject → Subject → ℕ → Type 0
+Goes l count first s k = (t : Subject) → Reached s (from l count k) t → Reached first (from l count 1) t
+
+module _ (l : List ℕ) (count k : ℕ) where
+  one-more : k < count → from l count k ≡ recordOfBytes (take recordLength (drop (k * recordLength) l)) ∷ from l count (k + 1)
+  one-more h =
+      let e : count - k ≡ suc (count - (k + 1)) = omega arith in
+      let f : k * recordLength + recordLength ≡ (k + 1) * recordLength = omega arith in
+      rw e
+      (ap (λ (m : List ℕ). recordOfBytes (take recordLength (drop (k * recordLength) l)) ∷ map recordOfBytes (parts (count - (k + 1)) m))
+      (drop-drop recordLength (k * recordLength) l ∙ ap (λ (j : ℕ). drop j l) f))
+
+  pub turn : (first s t : Subject) (r : Record) (a : AddAnswer) (o : OutcomeAnswer) → k < count → Goes l count first s k →
+      r ≡ recordOfBytes (take (k * 11 + 11 - k * 11) (drop (k * 11) l)) → Added s r a t → Told t o → Goes l count first t (k + 1)
+  turn first s t r a o h g re w q u c =
+      let e : k * 11 + 11 - k * 11 ≡ 11 = omega arith in
+      let same : r ≡ recordOfBytes (take recordLength (drop (k * recordLength) l)) = rw e at re in
+      g u (subst (λ (rs : List Record). Reached s rs u) (ap (λ (x : Record). x ∷ from l count (k + 1)) same ∙ sym (one-more h)) (one-turn w q c))
+
+  -- behind the last record
+  pub ended : (first s : Subject) → count ≤ k → Goes l count first s k → Reached first (from l count 1) s
+  ended first s h g =
+      let z : count - k ≡ 0 = omega arith in
+      g s (rw z (record { replied = []; calls = none }))
+
+-- no call changes the blank
+blank-stays : {s t : Subject} {cs : List Call} {ys : List Reply} → s ≡ blank → Calls s cs ys t → t ≡ blank
+blank-stays e none = e
+blank-stays e (adds {a = a} w c) =
+    let twelve = calls-in-range .addedOutside w (ap inRange e ∙ calls-in-range .blankOutside) in
+    blank-stays (calls-in-range .notAdded w (λ z. let f : ⊥ = omega (arith, twelve, z) in f) ∙ e) c
+blank-stays e (reads w c) = blank-stays e c
+
+pub empty : (l : List ℕ) → length l / 11 ≡ 0 → Replayed (recordsIn l) A.OutOfRange
+empty l e = rw e
+
+pub replayed : (l : List ℕ) (b : Record) (a : OpenAnswer) (s t : Subject) (o : OutcomeAnswer) → (length l / 11 ≡ 0 → ⊥) → b ≡ recordOfBytes (take 11 l) →
+    Opened b a s → Reached s (from l (length l / 11) 1) t → Told t o → Replayed (recordsIn l) o
+replayed l b a s t o h be w c q =
+    subst (λ (rs : List Record). Replayed rs o) whole (
+      λ accepts. demand3 .holds w (w .answer ∙ accepts) (c .calls) q .claim,
+      λ refuses. calls-in-range .toldOutside q (ap inRange (blank-stays (calls-in-range .notOpened w (λ z. refuses (sym (w .answer) ∙ z))) (c .calls)) ∙ calls-in-range .blankOutside),
+    )
+  where
+    whole : b ∷ from l (length l / 11) 1 ≡ recordsIn l
+    whole =
+        let e : length l / 11 ≡ suc (length l / 11 - 1) = omega arith in
+        ap (λ (x : Record). x ∷ from l (length l / 11) 1) be ∙ sym (ap (λ (n : ℕ). map recordOfBytes (parts n l)) e)
