@@ -6,19 +6,18 @@ use Prim.Native.Nat.{ℕ, suc, _+_, _-_, _*_, _/_, _≤_, _<_}
 use native.Mathlib.Omega.{arith}
 use lib.ListN.{length, take, drop}
 use lib.Seq.{drop-drop}
-use mathlib.Core.Bool.{false}
 use Rattle.records.specs.declared.Record.{Record}
 use Rattle.codec.specs.Bytes.{recordLength}
 use Rattle.codec.specs.Reading.{recordOfBytes}
-use Rattle.endpoints.specs.Adding.{refusalOfOpening, Call}
+use Rattle.endpoints.specs.Adding.{Call}
 use Rattle.held.specs.declared.Subject.{Subject}
 use Rattle.held.specs.Range.{inRange}
-use Rattle.held.specs.Opening.{blank}
+use Rattle.held.specs.Opening.{blank, Opened}
 use Rattle.placing.specs.declared.AddAnswer.{AddAnswer}
-use Rattle.outcome.specs.declared.OpenAnswer.{OpenAnswer}
+use Rattle.held.specs.declared.OpenAnswer.{OpenAnswer}
 use Rattle.outcome.specs.declared.OutcomeAnswer.{OutcomeAnswer}
 use Rattle.outcome.specs.declared.OutcomeAnswer.the-variants as A
-use Rattle.outcome.specs.Promises.{Opened, Added, Told}
+use Rattle.outcome.specs.Promises.{Added, Told}
 use Rattle.outcome.specs.Demand3.{Reply, Calls, none, adds, reads}
 use Rattle.outcome.proofs.Within.{calls-in-range}
 use Rattle.outcome.proofs.Demand.{demand3}

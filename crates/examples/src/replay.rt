@@ -24,7 +24,7 @@ pub(crate) fn replay(bytes: &[u8]) -> OutcomeAnswer
     if count == 0 {
         return OutcomeAnswer::OutOfRange;
     }
-    let opening = outcome::open_subject(record_in(&bytes[0..11]));
+    let opening = held::open_subject(record_in(&bytes[0..11]));
     let mut subject = opening.subject;
     let mut k: usize = 1;
     while k < count {

@@ -1,4 +1,4 @@
--- What is held for PFS, best response and duration follows the list of the visits: one visit more makes of it what the longer list gives.
+-- What is held follows the list of the records: a baseline opens it, and one visit more makes of its parts what the longer list gives.
 -- Assumes nothing.
 use mathlib.Core.Path.{_≡_, refl, sym, _∙_}
 use mathlib.Core.Bool.{Bool, true, false}
@@ -8,17 +8,24 @@ use native.Mathlib.Omega.{arith}
 use borrow.Author.Tests.{le-leb, leb-true}
 use Rattle.laws.specs.Choice.{both, either, pick}
 use Rattle.laws.proofs.Tests.{either-with-false}
+use Rattle.dates.specs.declared.Date.{Date}
 use Rattle.dates.specs.declared.StudyDay.{StudyDay}
+use Rattle.records.specs.declared.BaselineEntry.{BaselineEntry}
 use Rattle.criteria.specs.Words.{Word, CR, PR, SD, PD, NE, NA, NN}
+use Rattle.criteria.specs.Nadir.{leftBy}
 use Rattle.criteria.specs.Overall.{isPD, evaluable}
 use Rattle.endpoints.specs.declared.MaybeDay.{MaybeDay}
 use Rattle.endpoints.specs.declared.MaybeDay.the-variants as M
 use Rattle.endpoints.specs.Values.{Day, none, on, isRecorded, _orElse_, dayValue}
-use Rattle.endpoints.specs.Visits.{Judged, firstPD}
+use Rattle.endpoints.specs.StudyRecords.{Baseline, disease}
+use Rattle.endpoints.specs.Lawful.{Past, latestDay, deathDay}
+use Rattle.endpoints.specs.Visits.{visitsOf, therapyRecorded, Judged, judged, firstPD, counting}
 use Rattle.endpoints.specs.Pfs.{beforeEvent, lastVisit, lastEvaluable}
 use Rattle.endpoints.specs.Best.{isCR, isResponse, mayStandBetween, confirmDays, farApart, completeBefore, confirmedCR, responseBefore, confirmedResponse, stable, firstResponse}
 use Rattle.held.specs.declared.EventDays.{EventDays}
 use Rattle.held.specs.declared.CountedVisits.{CountedVisits}
+use Rattle.held.specs.declared.Subject.{Subject}
+use Rattle.held.specs.Opening.{firstSubject}
 use Rattle.held.specs.Visits.{firstOf, farAfter, eventAfter, countedAfter}
 use Rattle.held.proofs.Ordered.{UpTo, Falling}
 
@@ -183,3 +190,28 @@ counted-follows j js s =
       sd = stable (j ∷ js);
       pd = pd i;
     }
+
+-- ---- the subject
+
+-- what is held after a baseline and the records behind it
+unfoldable pub summary : Date → Baseline → Past → Subject
+summary randomisation b p =
+    record {
+      randomisation = randomisation;
+      nontarget = b .nontarget;
+      baseline = disease b;
+      earlier = leftBy (disease b) (visitsOf p);
+      latest = at (latestDay p);
+      therapy = therapyRecorded p;
+      death = maybe (deathDay p);
+      event = eventOf (judged b p);
+      counted = countedOf (counting b p);
+    }
+
+abbrev pub baselineOf : BaselineEntry → List Bool → List ℕ → Baseline
+baselineOf b nodes sizes = record { assessed = b .assessed; nontarget = b .nontarget; count = b .count; nodes = nodes; sizes = sizes }
+
+pub opening-follows : (b : BaselineEntry) (nodes : List Bool) (sizes : List ℕ) →
+    firstSubject b nodes sizes ≡ summary (b .date) (baselineOf b nodes sizes) []
+unfolding firstSubject summary eventOf countedOf
+opening-follows b nodes sizes = refl

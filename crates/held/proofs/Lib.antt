@@ -1,4 +1,4 @@
 pub mod Follows
 pub mod Ordered
 pub mod Within
-mod Answers
+mod Returns

@@ -1,14 +1,24 @@
--- Document 01, "Outcome" and "Settled": what is held after a baseline alone, and the blank beside a refused opening.
+-- Document 01, "Where a call stops", 3 to 5 and 7, and "Outcome": opening, what is held after a baseline alone, and the blank beside a refusal.
 -- Assumes nothing.
+use mathlib.Core.Path.{_≡_}
 use Prim.Native.Nat.{ℕ}
+use lib.Dec.{eqb}
+use Rattle.laws.specs.Choice.{pick}
 use mathlib.Core.Bool.{Bool, false}
 use mathlib.Core.List.{List, [], _∷_}
 use Rattle.dates.specs.declared.StudyDay.{StudyDay}
 use Rattle.dates.specs.Laws.{ymd}
 use Rattle.records.specs.declared.BaselineEntry.{BaselineEntry}
+use Rattle.records.specs.declared.Entry.{Entry}
+use Rattle.records.specs.declared.Entry.the-variants as E
+use Rattle.records.specs.declared.Record.{Record}
+use Rattle.records.specs.Form.{Five}
 use Rattle.criteria.specs.Inputs.{diseaseOf}
 use Rattle.criteria.specs.Nadir.{leftBy}
 use Rattle.endpoints.specs.declared.MaybeDay.the-variants as M
+use Rattle.endpoints.specs.Adding.{notBaseline, refusalOfOpening}
+use Rattle.held.specs.declared.OpenAnswer.{OpenAnswer}
+use Rattle.held.specs.declared.OpenAnswer.the-variants as O
 use Rattle.held.specs.declared.EventDays.{EventDays}
 use Rattle.held.specs.declared.CountedVisits.{CountedVisits}
 use Rattle.held.specs.declared.Subject.{Subject}
@@ -49,3 +59,33 @@ blank =
       event = noVisits (record { 0 = 0 });
       counted = nothingCounted;
     }
+
+-- the number of each case in document 01; 0 where no refusal meets
+abbrev pub openNumber : OpenAnswer → ℕ
+openNumber O.Done = 0
+openNumber O.NoSuchDate = 3
+openNumber O.OutsideLimits = 4
+openNumber O.NotZero = 5
+openNumber O.NotBaseline = 7
+
+-- the subject that a baseline opens; any other record is refused
+abbrev pub subjectOf : Entry → List Bool → List ℕ → Subject
+subjectOf (E.Baseline b) marks sizes = firstSubject b marks sizes
+subjectOf (E.Visit v) marks sizes = blank
+subjectOf (E.Therapy d) marks sizes = blank
+subjectOf (E.Death d) marks sizes = blank
+
+-- opening with a record that none of its own refusals meets
+pub record OpensChecked (e : Entry) (marks : List Bool) (sizes : List ℕ) (a : OpenAnswer) (s : Subject) : Type 0 where
+  pub answer : openNumber a ≡ notBaseline e
+  pub made : s ≡ subjectOf e marks sizes
+
+-- beside a refusal one fixed blank
+unfoldable pub openedSubject : Record → Subject
+openedSubject r = pick (eqb (refusalOfOpening r) 0) (subjectOf (r .entry) (r .marks) (r .sizes)) blank
+
+-- the first of 3 to 5 and 7, or the subject; and what the declared type of a record says of its arrays
+pub record Opened (r : Record) (a : OpenAnswer) (s : Subject) : Type 0 where
+  pub answer : openNumber a ≡ refusalOfOpening r
+  pub made : s ≡ openedSubject r
+  pub five : Five r

@@ -9,10 +9,9 @@ use endpoints::MaybeDay;
 mod days; // days.rt: days that may be absent
 mod range; // range.rt: what 12 judges
 mod visits; // visits.rt: the days and the best response after one visit more
-mod opening; // opening.rt: the subject after a baseline
+mod opening; // opening.rt: the subject that a baseline opens
 
-pub use opening::blank_subject;
-pub use opening::first_subject;
+pub use opening::open_subject;
 pub use range::in_range;
 pub use visits::counted_after;
 pub use visits::event_after;
@@ -54,4 +53,18 @@ pub struct Subject {
     pub death: MaybeDay,
     pub event: EventDays,
     pub counted: CountedVisits,
+}
+
+pub enum OpenAnswer {
+    Done,
+    NoSuchDate,
+    OutsideLimits,
+    NotZero,
+    NotBaseline,
+}
+
+// The subject opened; beside a refusal one fixed blank, which adding and reading refuse.
+pub struct OpenResult {
+    pub subject: Subject,
+    pub answer: OpenAnswer,
 }

@@ -1,6 +1,8 @@
-// The subject after a baseline, and the blank that stands beside a refused opening.
+// Opening: the subject after a baseline, and the blank that stands beside a refusal.
 use super::CountedVisits;
 use super::EventDays;
+use super::OpenAnswer;
+use super::OpenResult;
 use super::Subject;
 use criteria::BaselineDisease;
 use criteria::Earlier;
@@ -8,8 +10,11 @@ use dates::Date;
 use dates::StudyDay;
 use endpoints::MaybeDay;
 use records::BaselineEntry;
+use records::CheckAnswer;
+use records::Entry;
+use records::Record;
 ghost use mathlib.Core.Path.{_≡_};
-ghost use Rattle.held.specs.Opening.{noVisits, nothingCounted, firstSubject, blank};
+ghost use Rattle.held.specs.Opening.{noVisits, nothingCounted, firstSubject, blank, OpensChecked, Opened};
 
 fn no_visits(day: StudyDay) -> EventDays
     ensures { λ r. ⌜ r ≡ noVisits day ⌝ }
@@ -34,7 +39,7 @@ fn nothing_counted() -> CountedVisits
     }
 }
 
-pub fn first_subject(entry: BaselineEntry, nodes: [bool; 5], sizes: [u16; 5]) -> Subject
+fn first_subject(entry: BaselineEntry, nodes: [bool; 5], sizes: [u16; 5]) -> Subject
     ensures { λ r. ⌜ r ≡ firstSubject entry nodes sizes ⌝ }
 {
     let date = entry.date;
@@ -56,7 +61,7 @@ pub fn first_subject(entry: BaselineEntry, nodes: [bool; 5], sizes: [u16; 5]) ->
     }
 }
 
-pub fn blank_subject() -> Subject
+fn blank_subject() -> Subject
     ensures { λ r. ⌜ r ≡ blank ⌝ }
 {
     let event = no_visits(StudyDay(0));
@@ -80,5 +85,47 @@ pub fn blank_subject() -> Subject
         death: MaybeDay::Absent,
         event: event,
         counted: counted,
+    }
+}
+
+fn refused(answer: OpenAnswer) -> OpenResult
+    ensures { λ x. ⌜ (x .answer ≡ answer) × (x .subject ≡ blank) ⌝ }
+{
+    let subject = blank_subject();
+    OpenResult {
+        subject: subject,
+        answer: answer,
+    }
+}
+
+// Refusal 7.
+fn open_checked(entry: Entry, marks: [bool; 5], sizes: [u16; 5]) -> OpenResult
+    ensures { λ x. ⌜ OpensChecked entry marks sizes (x .answer) (x .subject) ⌝ }
+{
+    match entry {
+        Entry::Baseline(b) => {
+            let subject = first_subject(b, marks, sizes);
+            OpenResult {
+                subject: subject,
+                answer: OpenAnswer::Done,
+            }
+        }
+        Entry::Visit(_) => refused(OpenAnswer::NotBaseline),
+        Entry::Therapy(_) => refused(OpenAnswer::NotBaseline),
+        Entry::Death(_) => refused(OpenAnswer::NotBaseline),
+    }
+}
+
+pub fn open_subject(r: Record) -> OpenResult
+    ensures { λ x. ⌜ Opened r (x .answer) (x .subject) ⌝ }
+{
+    let entry = r.entry;
+    let marks = r.marks;
+    let sizes = r.sizes;
+    match records::check(r) {
+        CheckAnswer::NoSuchDate => refused(OpenAnswer::NoSuchDate),
+        CheckAnswer::OutsideLimits => refused(OpenAnswer::OutsideLimits),
+        CheckAnswer::NotZero => refused(OpenAnswer::NotZero),
+        CheckAnswer::Passed => open_checked(entry, marks, sizes),
     }
 }

@@ -22,14 +22,16 @@ use Rattle.endpoints.specs.Adding.{isBaseline, tooEarly, misfits, refusalBehind
 use Rattle.endpoints.proofs.Refusals.{one-more}
 use Rattle.endpoints.proofs.Calls.{none-of-both, accepted-lawful, accepted-exact}
 use Rattle.held.specs.declared.Subject.{Subject}
+use Rattle.held.specs.Opening.{openNumber, subjectOf, openedSubject, Opened}
 use Rattle.held.specs.Range.{inRange}
 use Rattle.placing.specs.declared.AddAnswer.{AddAnswer}
 use Rattle.placing.specs.Added.{entryAdded}
 use Rattle.placing.specs.Refusals.{addNumber, refusalOn}
-use Rattle.placing.proofs.Follows.{summary, baselineOf, opening-follows, refusal-follows, adding-follows}
-use Rattle.outcome.specs.declared.OpenAnswer.{OpenAnswer}
+use Rattle.held.proofs.Follows.{summary, baselineOf, opening-follows}
+use Rattle.placing.proofs.Follows.{refusal-follows, adding-follows}
+use Rattle.held.specs.declared.OpenAnswer.{OpenAnswer}
 use Rattle.outcome.specs.declared.OutcomeAnswer.{OutcomeAnswer}
-use Rattle.outcome.specs.Promises.{openNumber, subjectOf, openedSubject, Opened, refusalHeld, nextSubject, Added, Reading, outcome, readingValues, outcomeOf, Told}
+use Rattle.outcome.specs.Promises.{refusalHeld, nextSubject, Added, Reading, outcome, readingValues, outcomeOf, Told}
 use Rattle.outcome.specs.Demand3.{Reply, added, told, Calls, none, adds, reads, outcomeOn, repliesAfter, Without12, SaysOn, Claim, Holds, Demand3}
 use Rattle.outcome.proofs.Follows.{reading-follows}
 use Rattle.outcome.proofs.Within.{calls-in-range, reading-in-range}

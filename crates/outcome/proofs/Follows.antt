@@ -8,8 +8,7 @@ use Rattle.endpoints.specs.Visits.{judged, progression, counting}
 use Rattle.endpoints.specs.Pfs.{beforeEvent, lastEvaluable, pfs}
 use Rattle.endpoints.specs.Best.{best, firstResponse, duration}
 use Rattle.endpoints.specs.Settled.{pfsSettled, bestSettled, durationSettled, outcome}
-use Rattle.held.proofs.Follows.{day-of-maybe, eventOf, countedOf}
-use Rattle.placing.proofs.Follows.{summary}
+use Rattle.held.proofs.Follows.{day-of-maybe, eventOf, countedOf, summary}
 use Rattle.outcome.specs.Promises.{outcomeOf}
 
 pub reading-follows : (randomisation : Date) (b : Baseline) (p : Past) → outcomeOf (summary randomisation b p) ≡ outcome b p

@@ -2,4 +2,4 @@ pub mod Follows
 pub mod Within
 pub mod Runs
 pub mod Demand
-mod Answers
+mod Returns

@@ -21,6 +21,7 @@ use Rattle.endpoints.specs.Best.{isResponse, durationOf}
 use Rattle.endpoints.specs.Adding.{afterOwn, notBaseline, refusalOfOpening}
 use Rattle.endpoints.proofs.Calls.{none-of-both}
 use Rattle.held.specs.declared.Subject.{Subject}
+use Rattle.held.specs.Opening.{openNumber, subjectOf, openedSubject, Opened}
 use Rattle.held.specs.Range.{inRange}
 use Rattle.held.specs.Laws.{Within, AbsentOrWithin, SubjectWithin}
 use Rattle.held.proofs.Within.{subject-within, in-range, blank-outside, opening-within}
@@ -28,8 +29,8 @@ use Rattle.placing.specs.declared.AddAnswer.{AddAnswer}
 use Rattle.placing.specs.Added.{entryAdded}
 use Rattle.placing.specs.Refusals.{refusalOn}
 use Rattle.placing.proofs.Within.{adding-within}
-use Rattle.outcome.specs.declared.OpenAnswer.{OpenAnswer}
-use Rattle.outcome.specs.Promises.{openNumber, subjectOf, openedSubject, Opened, refusalHeld, nextSubject, Added, outcome, pfsHeld, bestHeld, outcomeOf, readingOf}
+use Rattle.held.specs.declared.OpenAnswer.{OpenAnswer}
+use Rattle.outcome.specs.Promises.{refusalHeld, nextSubject, Added, outcome, pfsHeld, bestHeld, outcomeOf, readingOf}
 use Rattle.outcome.specs.Laws.{DurationWithin, TellsWithin, CallsInRange}
 
 -- ---- opening

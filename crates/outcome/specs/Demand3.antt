@@ -12,11 +12,12 @@ use Rattle.endpoints.specs.Lawful.{lawful}
 use Rattle.endpoints.specs.Lasting.{outcomeInOrder, LastsInOrder}
 use Rattle.endpoints.specs.Adding.{refusalOfAdding, Call, add, read, acceptedAfter, accepted}
 use Rattle.held.specs.declared.Subject.{Subject}
+use Rattle.held.specs.Opening.{openNumber, Opened}
 use Rattle.placing.specs.declared.AddAnswer.{AddAnswer}
 use Rattle.placing.specs.Refusals.{addNumber}
-use Rattle.outcome.specs.declared.OpenAnswer.{OpenAnswer}
+use Rattle.held.specs.declared.OpenAnswer.{OpenAnswer}
 use Rattle.outcome.specs.declared.OutcomeAnswer.{OutcomeAnswer}
-use Rattle.outcome.specs.Promises.{openNumber, Opened, Added, Reading, refused, outcome, readingValues, Told}
+use Rattle.outcome.specs.Promises.{Added, Reading, refused, outcome, readingValues, Told}
 
 -- what a call replies, in the paper's numbers and values: an addition 0 where it is done or the refusal's number, a reading the outcome or a refusal
 pub data Reply : Type 0 where

@@ -1,64 +1,25 @@
--- Document 01, "Contracts" a and "Where a call stops": what opening, adding and reading the outcome promise, for every record value and every subject.
+-- Document 01, "Contracts" a and "Where a call stops": what adding and reading the outcome promise, for every record value and every subject.
 -- Assumes nothing.
 use mathlib.Core.Path.{_≡_}
 use mathlib.Core.Bool.{Bool}
-use mathlib.Core.List.{List}
 use Prim.Native.Nat.{ℕ}
 use lib.Dec.{eqb}
 use Rattle.laws.specs.Choice.{pick}
-use Rattle.records.specs.declared.Entry.{Entry}
-use Rattle.records.specs.declared.Entry.the-variants as E
 use Rattle.records.specs.declared.Record.{Record}
-use Rattle.records.specs.Form.{Five}
 use Rattle.criteria.specs.Words.{Word}
 use Rattle.endpoints.specs.Values.{isRecorded, Pfs, Duration, Outcome, dayValue, pfsValues, bestWord, durationValues}
 use Rattle.endpoints.specs.Pfs.{pfsOf}
 use Rattle.endpoints.specs.Best.{bestOf, durationOf}
 use Rattle.endpoints.specs.Settled.{pfsSettledBy, bestSettledBy, durationSettledBy}
-use Rattle.endpoints.specs.Adding.{afterOwn, notBaseline, refusalOfOpening}
+use Rattle.endpoints.specs.Adding.{afterOwn}
 use Rattle.held.specs.declared.Subject.{Subject}
 use Rattle.held.specs.Range.{inRange}
-use Rattle.held.specs.Opening.{firstSubject, blank}
 use Rattle.placing.specs.declared.AddAnswer.{AddAnswer}
 use Rattle.placing.specs.Added.{entryAdded}
 use Rattle.placing.specs.Refusals.{addNumber, refusalOn}
-use Rattle.outcome.specs.declared.OpenAnswer.{OpenAnswer}
-use Rattle.outcome.specs.declared.OpenAnswer.the-variants as O
 use Rattle.outcome.specs.declared.OutcomeResult.{OutcomeResult}
 use Rattle.outcome.specs.declared.OutcomeAnswer.{OutcomeAnswer}
 use Rattle.outcome.specs.declared.OutcomeAnswer.the-variants as A
-
--- ---- opening
-
--- the number of each case in document 01; 0 where no refusal meets
-abbrev pub openNumber : OpenAnswer → ℕ
-openNumber O.Done = 0
-openNumber O.NoSuchDate = 3
-openNumber O.OutsideLimits = 4
-openNumber O.NotZero = 5
-openNumber O.NotBaseline = 7
-
--- the subject that a baseline opens; any other record is refused
-abbrev pub subjectOf : Entry → List Bool → List ℕ → Subject
-subjectOf (E.Baseline b) marks sizes = firstSubject b marks sizes
-subjectOf (E.Visit v) marks sizes = blank
-subjectOf (E.Therapy d) marks sizes = blank
-subjectOf (E.Death d) marks sizes = blank
-
--- opening with a record that none of its own refusals meets
-pub record OpensChecked (e : Entry) (marks : List Bool) (sizes : List ℕ) (a : OpenAnswer) (s : Subject) : Type 0 where
-  pub answer : openNumber a ≡ notBaseline e
-  pub made : s ≡ subjectOf e marks sizes
-
--- beside a refusal one fixed blank
-unfoldable pub openedSubject : Record → Subject
-openedSubject r = pick (eqb (refusalOfOpening r) 0) (subjectOf (r .entry) (r .marks) (r .sizes)) blank
-
--- the first of 3 to 5 and 7, or the subject; and what the declared type of a record says of its arrays
-pub record Opened (r : Record) (a : OpenAnswer) (s : Subject) : Type 0 where
-  pub answer : openNumber a ≡ refusalOfOpening r
-  pub made : s ≡ openedSubject r
-  pub five : Five r
 
 -- ---- adding
 

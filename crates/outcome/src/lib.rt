@@ -3,31 +3,14 @@
 use endpoints::BestResponse;
 use endpoints::DurationAnswer;
 use endpoints::PfsResult;
-use held::Subject;
 
-mod opening; // opening.rt: the subject that a baseline opens
 mod adding; // adding.rt: one record more, by value and where the caller keeps the subject
 mod settled; // settled.rt: the marks
 mod reading; // reading.rt: the outcome of a held subject
 
 pub use adding::add;
 pub use adding::added;
-pub use opening::open_subject;
 pub use reading::read_outcome;
-
-pub enum OpenAnswer {
-    Done,
-    NoSuchDate,
-    OutsideLimits,
-    NotZero,
-    NotBaseline,
-}
-
-// The subject opened; beside a refusal one fixed blank, which adding and reading refuse.
-pub struct OpenResult {
-    pub subject: Subject,
-    pub answer: OpenAnswer,
-}
 
 // For each part of the outcome, whether no further record can change it.
 pub struct SettledMarks {

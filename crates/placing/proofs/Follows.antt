@@ -2,12 +2,11 @@
 -- Assumes nothing.
 use mathlib.Core.Path.{_≡_, refl, sym, ap}
 use mathlib.Core.Bool.{Bool, true, false}
-use mathlib.Core.List.{List, [], _∷_}
+use mathlib.Core.List.{List, _∷_}
 use Prim.Native.Nat.{ℕ}
 use Rattle.laws.specs.Choice.{either, pick}
 use Rattle.laws.proofs.Tests.{never}
 use Rattle.dates.specs.declared.Date.{Date}
-use Rattle.records.specs.declared.BaselineEntry.{BaselineEntry}
 use Rattle.records.specs.declared.Entry.{Entry}
 use Rattle.records.specs.declared.Entry.the-variants as E
 use Rattle.criteria.specs.Inputs.{Visit}
@@ -15,40 +14,15 @@ use Rattle.criteria.specs.Nadir.{leftBy}
 use Rattle.criteria.proofs.Laws.{nadir-laws}
 use Rattle.endpoints.specs.Values.{Day, on, isRecorded, _orElse_}
 use Rattle.endpoints.specs.StudyRecords.{Baseline, baseline, disease, studyDay, entryOnStudyDay}
-use Rattle.endpoints.specs.Lawful.{Past, latestDay, deathDay, fits, lawfulBehind}
+use Rattle.endpoints.specs.Lawful.{Past, deathDay, fits, lawfulBehind}
 use Rattle.endpoints.specs.Visits.{visitsOf, therapyRecorded, Judged, judge, judged, progression, countingClosed, counting}
 use Rattle.endpoints.specs.Adding.{refusalBehind}
 use Rattle.endpoints.proofs.Behind.{absent, next, latest-is-last}
-use Rattle.held.specs.declared.Subject.{Subject}
-use Rattle.held.specs.Opening.{firstSubject}
 use Rattle.held.specs.Visits.{countedAfter}
 use Rattle.held.proofs.Ordered.{Falling, counting-falls}
-use Rattle.held.proofs.Follows.{at, maybe, day-of-maybe, eventOf, countedOf, event-follows, counted-follows}
+use Rattle.held.proofs.Follows.{at, maybe, day-of-maybe, eventOf, countedOf, event-follows, counted-follows, summary}
 use Rattle.placing.specs.Added.{answerOn, visitAdded, therapyAdded, deathAdded, entryAdded}
 use Rattle.placing.specs.Refusals.{refusalOn}
-
--- what is held after a baseline and the records behind it
-unfoldable pub summary : Date → Baseline → Past → Subject
-summary randomisation b p =
-    record {
-      randomisation = randomisation;
-      nontarget = b .nontarget;
-      baseline = disease b;
-      earlier = leftBy (disease b) (visitsOf p);
-      latest = at (latestDay p);
-      therapy = therapyRecorded p;
-      death = maybe (deathDay p);
-      event = eventOf (judged b p);
-      counted = countedOf (counting b p);
-    }
-
-abbrev pub baselineOf : BaselineEntry → List Bool → List ℕ → Baseline
-baselineOf b nodes sizes = record { assessed = b .assessed; nontarget = b .nontarget; count = b .count; nodes = nodes; sizes = sizes }
-
-pub opening-follows : (b : BaselineEntry) (nodes : List Bool) (sizes : List ℕ) →
-    firstSubject b nodes sizes ≡ summary (b .date) (baselineOf b nodes sizes) []
-unfolding firstSubject summary eventOf countedOf
-opening-follows b nodes sizes = refl
 
 module _ (randomisation : Date) (b : Baseline) (p : Past) where
   pub refusal-follows : (e : Entry) (marks : List Bool) (sizes : List ℕ) →

@@ -1,3 +1,3 @@
 pub mod Follows
 pub mod Within
-mod Answers
+mod Returns

@@ -43,23 +43,22 @@ misfitOn s (E.Visit v) measured = not (fitsBy (s .baseline .count) (s .nontarget
 misfitOn s (E.Therapy d) measured = false
 misfitOn s (E.Death d) measured = false
 
--- 8 a baseline; 9 after a death; 10 day too early; 11 visit doesn't fit baseline; 0 for none
+-- 9 after a death; 10 day too early; 11 visit doesn't fit baseline; 0 for none
+abbrev pub refusalBy : Bool → Bool → Bool → ℕ
+refusalBy dead early misfit = pick dead 9 (pick early 10 (pick misfit 11 0))
+
+-- 8 a baseline, before these
 unfoldable pub refusalOn : Subject → Entry → List Bool → ℕ
-refusalOn s e marks =
-    pick (eqb (kindNumber e) 1) 8
-    (pick (isRecorded (dayValue (s .death))) 9
-    (pick (earlyOn s e) 10
-    (pick (misfitOn s e marks) 11
-    0)))
+refusalOn s e marks = pick (eqb (kindNumber e) 1) 8 (refusalBy (isRecorded (dayValue (s .death))) (earlyOn s e) (misfitOn s e marks))
 
--- the same subject where a refusal meets
-unfoldable pub entryPlaced : Subject → Entry → List Bool → List ℕ → Subject
-entryPlaced s e marks sizes = pick (eqb (refusalOn s e marks) 0) (entryAdded s e marks sizes) s
+-- what placing promises: a refusal's number or 0, and the next subject, or the same one beside a refusal
+pub record Behind (s next : Subject) (refusal : ℕ) (a : AddAnswer) (t : Subject) : Type 0 where
+  pub answer : addNumber a ≡ refusal
+  pub left : t ≡ pick (eqb refusal 0) next s
 
--- what placing a record that none of its own refusals meets promises: the first of 8 to 11, and the subject left
-pub record PlacesEntry (s : Subject) (e : Entry) (marks : List Bool) (sizes : List ℕ) (a : AddAnswer) (t : Subject) : Type 0 where
-  pub answer : addNumber a ≡ refusalOn s e marks
-  pub left : t ≡ entryPlaced s e marks sizes
+-- of a record that none of its own refusals meets: the first of 8 to 11
+abbrev pub PlacesEntry : Subject → Entry → List Bool → List ℕ → AddAnswer → Subject → Type 0
+PlacesEntry s e marks sizes a t = Behind s (entryAdded s e marks sizes) (refusalOn s e marks) a t
 
 abbrev pub Places : Subject → Record → AddAnswer → Subject → Type 0
 Places s r a t = PlacesEntry s (r .entry) (r .marks) (r .sizes) a t

@@ -15,8 +15,9 @@ use records::VisitEntry;
 use results::is_recorded;
 ghost use mathlib.Core.Path.{_≡_};
 ghost use Rattle.records.specs.declared.Entry.the-variants as E;
+ghost use Rattle.endpoints.specs.Values.{isRecorded, dayValue};
 ghost use Rattle.placing.specs.Added.{heldDay};
-ghost use Rattle.placing.specs.Refusals.{PlacesEntry, Places};
+ghost use Rattle.placing.specs.Refusals.{refusalBy, Behind, PlacesEntry, Places};
 
 fn held_day(randomisation: Date, date: Date) -> StudyDay
     ensures { λ r. ⌜ r ≡ heldDay randomisation date ⌝ }
@@ -37,62 +38,50 @@ fn refused(s: Subject, answer: AddAnswer) -> AddResult
     }
 }
 
-fn place_visit(s: Subject, v: VisitEntry, measured: [bool; 5], sizes: [u16; 5]) -> AddResult
-    ensures { λ x. ⌜ PlacesEntry s (E.Visit v) measured sizes (x .answer) (x .subject) ⌝ }
+// 9 to 11, or the next subject.
+fn place_behind(s: Subject, early: bool, misfit: bool, next: Subject) -> AddResult
+    ensures { λ x. ⌜ Behind s next (refusalBy (isRecorded (dayValue (s .death))) early misfit) (x .answer) (x .subject) ⌝ }
 {
-    let status = v.status;
     let death = s.death;
     if is_recorded(death) {
         return refused(s, AddAnswer::AfterDeath);
     }
-    let day = held_day(s.randomisation, v.date);
-    if day.0 <= s.latest.0 {
+    if early {
         return refused(s, AddAnswer::TooEarly);
     }
-    if !fits(s.baseline.count, s.nontarget, status, measured) {
+    if misfit {
         return refused(s, AddAnswer::Misfit);
     }
-    let next = with_visit(s, day, v, measured, sizes);
     AddResult {
         subject: next,
         answer: AddAnswer::Done,
     }
+}
+
+fn place_visit(s: Subject, v: VisitEntry, measured: [bool; 5], sizes: [u16; 5]) -> AddResult
+    ensures { λ x. ⌜ PlacesEntry s (E.Visit v) measured sizes (x .answer) (x .subject) ⌝ }
+{
+    let status = v.status;
+    let day = held_day(s.randomisation, v.date);
+    let fit = fits(s.baseline.count, s.nontarget, status, measured);
+    let visited = with_visit(s, day, v, measured, sizes);
+    place_behind(s, day.0 <= s.latest.0, !fit, visited)
 }
 
 fn place_therapy(s: Subject, date: Date, marks: [bool; 5], sizes: [u16; 5]) -> AddResult
     ensures { λ x. ⌜ PlacesEntry s (E.Therapy date) marks sizes (x .answer) (x .subject) ⌝ }
 {
-    let death = s.death;
-    if is_recorded(death) {
-        return refused(s, AddAnswer::AfterDeath);
-    }
     let day = held_day(s.randomisation, date);
-    if day.0 < s.latest.0 {
-        return refused(s, AddAnswer::TooEarly);
-    }
-    let next = with_therapy(s, day);
-    AddResult {
-        subject: next,
-        answer: AddAnswer::Done,
-    }
+    let treated = with_therapy(s, day);
+    place_behind(s, day.0 < s.latest.0, false, treated)
 }
 
 fn place_death(s: Subject, date: Date, marks: [bool; 5], sizes: [u16; 5]) -> AddResult
     ensures { λ x. ⌜ PlacesEntry s (E.Death date) marks sizes (x .answer) (x .subject) ⌝ }
 {
-    let death = s.death;
-    if is_recorded(death) {
-        return refused(s, AddAnswer::AfterDeath);
-    }
     let day = held_day(s.randomisation, date);
-    if day.0 < s.latest.0 {
-        return refused(s, AddAnswer::TooEarly);
-    }
-    let next = with_death(s, day);
-    AddResult {
-        subject: next,
-        answer: AddAnswer::Done,
-    }
+    let dead = with_death(s, day);
+    place_behind(s, day.0 < s.latest.0, false, dead)
 }
 
 // The record's own refusals have been judged before.

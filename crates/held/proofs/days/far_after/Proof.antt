@@ -1,7 +1,7 @@
 -- `held::days::far_after` meets its contract.
 -- Assumes nothing.
 use borrow.Author.Needs.{needs}
-use Rattle.held.proofs.Answers.{far-recorded}
+use Rattle.held.proofs.Returns.{far-recorded}
 use Rattle.held.proofs.days.far_after.Statement.{statement}
 use Rattle.held.proofs.days.far_after.Tie as tie
 

@@ -1,7 +1,7 @@
 -- `held::days::first_of` meets its contract.
 -- Assumes nothing.
 use borrow.Author.Needs.{needs}
-use Rattle.held.proofs.Answers.{first-absent, first-recorded}
+use Rattle.held.proofs.Returns.{first-absent, first-recorded}
 use Rattle.held.proofs.days.first_of.Statement.{statement}
 use Rattle.held.proofs.days.first_of.Tie as tie
 

@@ -1,7 +1,7 @@
 -- `held::opening::blank_subject` meets its contract.
 -- Assumes nothing.
 use borrow.Author.Needs.{needs}
-use Rattle.held.proofs.Answers.{blank-made}
+use Rattle.held.proofs.Returns.{blank-made}
 use Rattle.held.proofs.opening.blank_subject.Statement.{statement}
 use Rattle.held.proofs.opening.blank_subject.Tie as tie
 

@@ -1,7 +1,7 @@
 -- `held::opening::first_subject` meets its contract.
 -- Assumes nothing.
 use borrow.Author.Needs.{needs}
-use Rattle.held.proofs.Answers.{first-made}
+use Rattle.held.proofs.Returns.{first-made}
 use Rattle.held.proofs.opening.first_subject.Statement.{statement}
 use Rattle.held.proofs.opening.first_subject.Tie as tie
 

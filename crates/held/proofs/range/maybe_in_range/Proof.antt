@@ -1,7 +1,7 @@
 -- `held::range::maybe_in_range` meets its contract.
 -- Assumes nothing.
 use borrow.Author.Needs.{needs}
-use Rattle.held.proofs.Answers.{recorded-in-range}
+use Rattle.held.proofs.Returns.{recorded-in-range}
 use Rattle.held.proofs.range.maybe_in_range.Statement.{statement}
 use Rattle.held.proofs.range.maybe_in_range.Tie as tie
 

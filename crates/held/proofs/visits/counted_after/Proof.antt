@@ -1,7 +1,7 @@
 -- `held::visits::counted_after` meets its contract.
 -- Assumes nothing.
 use borrow.Author.Needs.{needs}
-use Rattle.held.proofs.Answers.{counted-cr, counted-pr, counted-sd, counted-pd, counted-ne}
+use Rattle.held.proofs.Returns.{counted-cr, counted-pr, counted-sd, counted-pd, counted-ne}
 use Rattle.held.proofs.visits.counted_after.Statement.{statement}
 use Rattle.held.proofs.visits.counted_after.Tie as tie
 

@@ -1,7 +1,7 @@
 -- `held::visits::event_after` meets its contract.
 -- Assumes nothing.
 use borrow.Author.Needs.{needs}
-use Rattle.held.proofs.Answers.{progressed, progresses, unevaluable, evaluable-cr, evaluable-pr, evaluable-sd}
+use Rattle.held.proofs.Returns.{progressed, progresses, unevaluable, evaluable-cr, evaluable-pr, evaluable-sd}
 use Rattle.held.proofs.visits.event_after.Statement.{statement}
 use Rattle.held.proofs.visits.event_after.Tie as tie
 

@@ -1,7 +1,7 @@
 -- `outcome::adding::step` meets its contract.
 -- Assumes nothing.
 use borrow.Author.Needs.{needs}
-use Rattle.outcome.proofs.Answers.{out-of-range, adds-without-date, adds-outside, adds-not-zero, adds-placed}
+use Rattle.outcome.proofs.Returns.{out-of-range, adds-without-date, adds-outside, adds-not-zero, adds-placed}
 use Rattle.outcome.proofs.adding.step.Statement.{statement}
 use Rattle.outcome.proofs.adding.step.Tie as tie
 

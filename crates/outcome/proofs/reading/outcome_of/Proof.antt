@@ -1,7 +1,7 @@
 -- `outcome::reading::outcome_of` meets its contract.
 -- Assumes nothing.
 use borrow.Author.Needs.{needs}
-use Rattle.outcome.proofs.Answers.{parts-read}
+use Rattle.outcome.proofs.Returns.{parts-read}
 use Rattle.outcome.proofs.reading.outcome_of.Statement.{statement}
 use Rattle.outcome.proofs.reading.outcome_of.Tie as tie
 

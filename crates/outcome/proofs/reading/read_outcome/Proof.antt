@@ -1,7 +1,7 @@
 -- `outcome::reading::read_outcome` meets its contract.
 -- Assumes nothing.
 use borrow.Author.Needs.{needs}
-use Rattle.outcome.proofs.Answers.{not-read, read-told}
+use Rattle.outcome.proofs.Returns.{not-read, read-told}
 use Rattle.outcome.proofs.reading.read_outcome.Statement.{statement}
 use Rattle.outcome.proofs.reading.read_outcome.Tie as tie
 

@@ -1,7 +1,7 @@
 -- `outcome::settled::best_settled` meets its contract.
 -- Assumes nothing.
 use borrow.Author.Needs.{needs}
-use Rattle.outcome.proofs.Answers.{best-settled-as}
+use Rattle.outcome.proofs.Returns.{best-settled-as}
 use Rattle.outcome.proofs.settled.best_settled.Statement.{statement}
 use Rattle.outcome.proofs.settled.best_settled.Tie as tie
 

@@ -1,7 +1,7 @@
 -- `outcome::settled::duration_settled` meets its contract.
 -- Assumes nothing.
 use borrow.Author.Needs.{needs}
-use Rattle.outcome.proofs.Answers.{none-settled, duration-settled-as}
+use Rattle.outcome.proofs.Returns.{none-settled, duration-settled-as}
 use Rattle.outcome.proofs.settled.duration_settled.Statement.{statement}
 use Rattle.outcome.proofs.settled.duration_settled.Tie as tie
 

@@ -1,6 +1,6 @@
 -- `outcome::settled::pfs_settled` meets its contract.
 -- Assumes nothing.
-use Rattle.outcome.proofs.Answers.{assessed-settled, missing-settled}
+use Rattle.outcome.proofs.Returns.{assessed-settled, missing-settled}
 use Rattle.outcome.proofs.settled.pfs_settled.Statement.{statement}
 use Rattle.outcome.proofs.settled.pfs_settled.Tie as tie
 

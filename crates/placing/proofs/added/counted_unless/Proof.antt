@@ -1,7 +1,7 @@
 -- `placing::added::counted_unless` meets its contract.
 -- Assumes nothing.
 use borrow.Author.Needs.{needs}
-use Rattle.placing.proofs.Answers.{counted-or-closed}
+use Rattle.placing.proofs.Returns.{counted-or-closed}
 use Rattle.placing.proofs.added.counted_unless.Statement.{statement}
 use Rattle.placing.proofs.added.counted_unless.Tie as tie
 

@@ -1,7 +1,7 @@
 -- `placing::added::with_visit` meets its contract.
 -- Assumes nothing.
 use borrow.Author.Needs.{needs}
-use Rattle.placing.proofs.Answers.{visit-made}
+use Rattle.placing.proofs.Returns.{visit-made}
 use Rattle.placing.proofs.added.with_visit.Statement.{statement}
 use Rattle.placing.proofs.added.with_visit.Tie as tie
 

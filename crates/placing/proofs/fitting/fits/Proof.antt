@@ -1,7 +1,7 @@
 -- `placing::fitting::fits` meets its contract.
 -- Assumes nothing.
 use borrow.Author.Needs.{needs}
-use Rattle.placing.proofs.Answers.{fits-nontarget, fits-no-nontarget}
+use Rattle.placing.proofs.Returns.{fits-nontarget, fits-no-nontarget}
 use Rattle.placing.proofs.fitting.fits.Statement.{statement}
 use Rattle.placing.proofs.fitting.fits.Tie as tie
 

@@ -1,7 +1,7 @@
 -- `placing::fitting::is_na` meets its contract.
 -- Assumes nothing.
 use borrow.Author.Needs.{needs}
-use Rattle.placing.proofs.Answers.{status-na, status-cr, status-nn, status-pd, status-ne}
+use Rattle.placing.proofs.Returns.{status-na, status-cr, status-nn, status-pd, status-ne}
 use Rattle.placing.proofs.fitting.is_na.Statement.{statement}
 use Rattle.placing.proofs.fitting.is_na.Tie as tie
 

@@ -1,7 +1,7 @@
 -- `placing::refusals::held_day` meets its contract.
 -- Assumes nothing.
 use borrow.Author.Needs.{needs}
-use Rattle.placing.proofs.Answers.{day-counted, day-before, day-of-none}
+use Rattle.placing.proofs.Returns.{day-counted, day-before, day-of-none}
 use Rattle.placing.proofs.refusals.held_day.Statement.{statement}
 use Rattle.placing.proofs.refusals.held_day.Tie as tie
 

@@ -1,7 +1,7 @@
 -- `placing::refusals::place` meets its contract.
 -- Assumes nothing.
 use borrow.Author.Needs.{needs}
-use Rattle.placing.proofs.Answers.{second-baseline, of-visit, of-therapy, of-death}
+use Rattle.placing.proofs.Returns.{second-baseline, of-visit, of-therapy, of-death}
 use Rattle.placing.proofs.refusals.place.Statement.{statement}
 use Rattle.placing.proofs.refusals.place.Tie as tie
 

@@ -1,7 +1,7 @@
 -- `placing::refusals::place_death` meets its contract.
 -- Assumes nothing.
 use borrow.Author.Needs.{needs}
-use Rattle.placing.proofs.Answers.{death-after-death, death-early, death-placed}
+use Rattle.placing.proofs.Returns.{death-placed}
 use Rattle.placing.proofs.refusals.place_death.Statement.{statement}
 use Rattle.placing.proofs.refusals.place_death.Tie as tie
 
@@ -11,9 +11,5 @@ place-death-spec =
     (tie.spec
     (λ c κs. search needs)
     (λ c κs. search needs)
-    (λ c. search death-after-death)
-    (λ c κs. search needs)
-    (λ c κs. search needs)
-    (λ c. search death-early)
     (λ c κs. search needs)
     (λ c. search death-placed))

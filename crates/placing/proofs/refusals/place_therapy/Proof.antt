@@ -1,7 +1,7 @@
 -- `placing::refusals::place_therapy` meets its contract.
 -- Assumes nothing.
 use borrow.Author.Needs.{needs}
-use Rattle.placing.proofs.Answers.{therapy-after-death, therapy-early, therapy-placed}
+use Rattle.placing.proofs.Returns.{therapy-placed}
 use Rattle.placing.proofs.refusals.place_therapy.Statement.{statement}
 use Rattle.placing.proofs.refusals.place_therapy.Tie as tie
 
@@ -11,9 +11,5 @@ place-therapy-spec =
     (tie.spec
     (λ c κs. search needs)
     (λ c κs. search needs)
-    (λ c. search therapy-after-death)
-    (λ c κs. search needs)
-    (λ c κs. search needs)
-    (λ c. search therapy-early)
     (λ c κs. search needs)
     (λ c. search therapy-placed))

@@ -1,7 +1,7 @@
 -- `placing::refusals::place_visit` meets its contract.
 -- Assumes nothing.
 use borrow.Author.Needs.{needs}
-use Rattle.placing.proofs.Answers.{visit-after-death, visit-early, visit-misfit, visit-placed}
+use Rattle.placing.proofs.Returns.{visit-placed}
 use Rattle.placing.proofs.refusals.place_visit.Statement.{statement}
 use Rattle.placing.proofs.refusals.place_visit.Tie as tie
 
@@ -11,12 +11,6 @@ place-visit-spec =
     (tie.spec
     (λ c κs. search needs)
     (λ c κs. search needs)
-    (λ c. search visit-after-death)
     (λ c κs. search needs)
-    (λ c κs. search needs)
-    (λ c. search visit-early)
-    (λ c κs. search needs)
-    (λ c κs. search needs)
-    (λ c. search visit-misfit)
     (λ c κs. search needs)
     (λ c. search visit-placed))

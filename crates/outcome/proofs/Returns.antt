@@ -1,23 +1,15 @@
--- What opening, adding and reading answer, from what the code found: `search` finds the premises by itself.
+-- What adding and reading answer, from what the code found: `search` finds the premises by itself.
 -- Assumes nothing.
 use mathlib.Core.Path.{_≡_, refl, sym, ap, _∙_}
 use mathlib.Core.Bool.{Bool, true, false, not, _||_}
-use mathlib.Core.List.{List}
 use Prim.Native.Nat.{ℕ, suc}
 use native.Mathlib.Omega.{arith}
-use lib.Dec.{leb, eqb}
+use lib.Dec.{leb}
 use borrow.Author.Tests.{ne-eqb, not-true, not-false}
-use Rattle.laws.specs.Choice.{pick}
-use Rattle.dates.specs.declared.Date.{Date}
 use Rattle.dates.specs.declared.StudyDay.{StudyDay}
-use Rattle.records.specs.declared.BaselineEntry.{BaselineEntry}
-use Rattle.records.specs.declared.VisitEntry.{VisitEntry}
-use Rattle.records.specs.declared.Entry.{Entry}
-use Rattle.records.specs.declared.Entry.the-variants as E
 use Rattle.records.specs.declared.Record.{Record}
 use Rattle.records.specs.declared.CheckAnswer.{CheckAnswer}
 use Rattle.records.specs.declared.CheckAnswer.the-variants as C
-use Rattle.records.specs.Form.{Five}
 use Rattle.records.specs.Refusals.{checkNumber, refusalOf}
 use Rattle.endpoints.specs.declared.PfsResult.{PfsResult}
 use Rattle.endpoints.specs.declared.BestResponse.{BestResponse}
@@ -28,72 +20,15 @@ use Rattle.endpoints.specs.Values.{isRecorded, dayValue, pfsValues, bestWord, d
 use Rattle.endpoints.specs.Pfs.{earlyDeath, pfsOf}
 use Rattle.endpoints.specs.Best.{isCR, bestOf, durationOf}
 use Rattle.endpoints.specs.Settled.{settledFrom, pfsSettledBy, bestSettledBy, durationSettledBy}
-use Rattle.endpoints.specs.Adding.{notBaseline, refusalOfOpening}
 use Rattle.held.specs.declared.Subject.{Subject}
 use Rattle.held.specs.Range.{inRange}
-use Rattle.held.specs.Opening.{firstSubject, blank}
 use Rattle.placing.specs.declared.AddAnswer.{AddAnswer}
 use Rattle.placing.specs.declared.AddAnswer.the-variants as A
 use Rattle.placing.specs.declared.AddResult.{AddResult}
-use Rattle.placing.specs.Refusals.{addNumber, refusalOn, entryPlaced, Places}
-use Rattle.outcome.specs.declared.OpenAnswer.{OpenAnswer}
-use Rattle.outcome.specs.declared.OpenAnswer.the-variants as O
-use Rattle.outcome.specs.declared.OpenResult.{OpenResult}
+use Rattle.placing.specs.Refusals.{addNumber, refusalOn, Places}
 use Rattle.outcome.specs.declared.OutcomeResult.{OutcomeResult}
 use Rattle.outcome.specs.declared.OutcomeAnswer.the-variants as R
-use Rattle.outcome.specs.Promises.{openNumber, subjectOf, OpensChecked, openedSubject, Opened, refusalHeld, nextSubject, Added, outcomeValues, outcomeOf, readingOf, Told}
-
--- ---- opening
-
--- 7 stands beside the blank
-only-baseline : (e : Entry) (marks : List Bool) (sizes : List ℕ) → subjectOf e marks sizes ≡ pick (eqb (notBaseline e) 0) (subjectOf e marks sizes) blank
-only-baseline (E.Baseline b) marks sizes = refl
-only-baseline (E.Visit v) marks sizes = refl
-only-baseline (E.Therapy d) marks sizes = refl
-only-baseline (E.Death d) marks sizes = refl
-
-module _ (e : Entry) (marks : List Bool) (sizes : List ℕ) where
-  pub checked-baseline : (b : BaselineEntry) (s : Subject) → e ≡ E.Baseline b → s ≡ firstSubject b marks sizes → OpensChecked e marks sizes O.Done s
-  checked-baseline b s k q = record { answer = rw k; made = q ∙ rw k }
-
-  module _ (x : OpenResult) (q : (x .answer ≡ O.NotBaseline) × (x .subject ≡ blank)) where
-    pub checked-visit : (v : VisitEntry) → e ≡ E.Visit v → OpensChecked e marks sizes (x .answer) (x .subject)
-    checked-visit v k = record { answer = rw (q .0, k); made = q .1 ∙ rw k }
-
-    pub checked-therapy : (d : Date) → e ≡ E.Therapy d → OpensChecked e marks sizes (x .answer) (x .subject)
-    checked-therapy d k = record { answer = rw (q .0, k); made = q .1 ∙ rw k }
-
-    pub checked-death : (d : Date) → e ≡ E.Death d → OpensChecked e marks sizes (x .answer) (x .subject)
-    checked-death d k = record { answer = rw (q .0, k); made = q .1 ∙ rw k }
-
-module _ (r : Record) (five : Five r) where
-  not-opened : (x : OpenResult) (a : OpenAnswer) (n : ℕ) → openNumber a ≡ suc n → refusalOfOpening r ≡ suc n →
-      (x .answer ≡ a) × (x .subject ≡ blank) → Opened r (x .answer) (x .subject)
-  unfolding openedSubject
-  not-opened x a n p e q =
-      record { answer = ap openNumber (q .0) ∙ p ∙ sym e; made = q .1 ∙ rw (e, ne-eqb (suc n) 0 (omega arith)); five = five }
-
-  module _ (c : CheckAnswer) (e : checkNumber c ≡ refusalOf r) where
-    own : (n : ℕ) → checkNumber c ≡ suc n → refusalOfOpening r ≡ suc n
-    unfolding refusalOfOpening
-    own n p = let q : refusalOf r ≡ suc n = sym e ∙ p in rw (q, ne-eqb (suc n) 0 (omega arith))
-
-    module _ (x : OpenResult) where
-      pub opens-without-date : c ≡ C.NoSuchDate → (x .answer ≡ O.NoSuchDate) × (x .subject ≡ blank) → Opened r (x .answer) (x .subject)
-      opens-without-date p q = not-opened x O.NoSuchDate 2 refl (own 2 (ap checkNumber p)) q
-
-      pub opens-outside : c ≡ C.OutsideLimits → (x .answer ≡ O.OutsideLimits) × (x .subject ≡ blank) → Opened r (x .answer) (x .subject)
-      opens-outside p q = not-opened x O.OutsideLimits 3 refl (own 3 (ap checkNumber p)) q
-
-      pub opens-not-zero : c ≡ C.NotZero → (x .answer ≡ O.NotZero) × (x .subject ≡ blank) → Opened r (x .answer) (x .subject)
-      opens-not-zero p q = not-opened x O.NotZero 4 refl (own 4 (ap checkNumber p)) q
-
-    pub opens-passed : (x : OpenResult) → c ≡ C.Passed → OpensChecked (r .entry) (r .marks) (r .sizes) (x .answer) (x .subject) →
-        Opened r (x .answer) (x .subject)
-    unfolding openedSubject refusalOfOpening
-    opens-passed x p q =
-        let passed : refusalOf r ≡ 0 = sym e ∙ ap checkNumber p in
-        record { answer = q .answer ∙ rw passed; made = q .made ∙ rw passed (only-baseline (r .entry) (r .marks) (r .sizes)); five = five }
+use Rattle.outcome.specs.Promises.{refusalHeld, nextSubject, Added, outcomeValues, outcomeOf, readingOf, Told}
 
 -- ---- adding
 
@@ -122,7 +57,7 @@ module _ (s : Subject) (r : Record) (inside : Bool) (iq : inside ≡ inRange s) 
     adds-not-zero p q = not-added x A.NotZero 4 refl (own-refusal 4 (ap checkNumber p)) q
 
     pub adds-placed : c ≡ C.Passed → Places s r (x .answer) (x .subject) → Added s r (x .answer) (x .subject)
-    unfolding refusalHeld nextSubject entryPlaced
+    unfolding refusalHeld nextSubject
     adds-placed p q =
         let passed : refusalOf r ≡ 0 = sym e ∙ ap checkNumber p in
         let whole : refusalHeld s r ≡ refusalOn s (r .entry) (r .marks) = rw (← iq, not-false inside h, passed) in
