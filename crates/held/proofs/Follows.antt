@@ -64,30 +64,16 @@ countedOf js =
 
 -- ---- the days of the event
 
-evaluable-follows : (d : ℕ) (x : Day) (ev : Bool) → pick ev (M.On (at d)) (maybe x) ≡ maybe (pick ev (on d) x)
-evaluable-follows d x true = refl
-evaluable-follows d x false = refl
-
 pub event-follows : (j : Judged) (js : List Judged) → eventAfter (eventOf js) (at (j .day)) (j .answer) ≡ eventOf (j ∷ js)
 unfolding eventAfter eventOf
-event-follows j js = go (firstPD js) (isPD (j .answer))
+event-follows j js = go (firstPD js) refl (isPD (j .answer)) refl (evaluable (j .answer)) refl
   where
-    go : (x : Day) (pd : Bool) → _≡_ {A = EventDays}
-        (pick (isRecorded (dayValue (maybe x)))
-        (record { progression = maybe x; previous = at (lastVisit (beforeEvent js)); evaluable = maybe (lastEvaluable (beforeEvent js)) })
-        (pick pd
-        (record { progression = M.On (at (j .day)); previous = at (lastVisit (beforeEvent js)); evaluable = maybe (lastEvaluable (beforeEvent js)) })
-        (record { progression = M.Absent; previous = at (j .day); evaluable = pick (evaluable (j .answer)) (M.On (at (j .day))) (maybe (lastEvaluable (beforeEvent js))) })))
-        (record {
-          progression = maybe (x orElse pick pd (on (j .day)) none);
-          previous = at (lastVisit (pick (isRecorded (x orElse pick pd (on (j .day)) none)) (beforeEvent js) (j ∷ beforeEvent js)));
-          evaluable = maybe (lastEvaluable (pick (isRecorded (x orElse pick pd (on (j .day)) none)) (beforeEvent js) (j ∷ beforeEvent js)));
-        })
-    go (on d) pd = refl
-    go none true = refl
-    go none false =
-        let last = evaluable-follows (j .day) (lastEvaluable (beforeEvent js)) (evaluable (j .answer)) in
-        λ i. record { progression = M.Absent; previous = at (j .day); evaluable = last i }
+    go : (x : Day) → firstPD js ≡ x → (pd : Bool) → isPD (j .answer) ≡ pd → (ev : Bool) → evaluable (j .answer) ≡ ev →
+        eventAfter (eventOf js) (at (j .day)) (j .answer) ≡ eventOf (j ∷ js)
+    go (on d) e pd f ev g = rw e
+    go none e true f ev g = rw (e, f)
+    go none e false f true g = rw (e, f, g)
+    go none e false f false g = rw (e, f, g)
 
 -- ---- the counting visits
 

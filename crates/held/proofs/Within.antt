@@ -25,7 +25,7 @@ use Rattle.endpoints.specs.Best.{isCR, isResponse, mayStandBetween}
 use Rattle.held.specs.declared.EventDays.{EventDays}
 use Rattle.held.specs.declared.CountedVisits.{CountedVisits}
 use Rattle.held.specs.declared.Subject.{Subject}
-use Rattle.held.specs.Range.{dayInRange, maybeInRange, eventInRange, largestSum, inRange}
+use Rattle.held.specs.Range.{firstDay, dayInRange, maybeInRange, eventInRange, largestSum, inRange}
 use Rattle.held.specs.Opening.{firstSubject, blank}
 use Rattle.held.specs.Visits.{firstOf, eventAfter, countedAfter}
 use Rattle.held.specs.Laws.{Within, AbsentOrWithin, EventWithin, CountedWithin, SubjectWithin, RangeLaws}
@@ -33,10 +33,10 @@ use Rattle.held.specs.Laws.{Within, AbsentOrWithin, EventWithin, Counted
 -- ---- what 12 judges
 
 within : (d : ℕ) → dayInRange d ≡ true → Within d
-within d e = let p = both-true (leb 1 d) _ e in (leb-true 1 d (p .0), leb-true d lastDayNumber (p .1))
+within d e = let p = both-true (leb firstDay d) _ e in (leb-true firstDay d (p .0), leb-true d lastDayNumber (p .1))
 
 day-in-range : (d : ℕ) → Within d → dayInRange d ≡ true
-day-in-range d w = rw (le-leb 1 d (w .0), le-leb d lastDayNumber (w .1))
+day-in-range d w = rw (le-leb firstDay d (w .0), le-leb d lastDayNumber (w .1))
 
 absent-or-within : (m : MaybeDay) → maybeInRange m ≡ true → AbsentOrWithin m
 absent-or-within M.Absent e = tt

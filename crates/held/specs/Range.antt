@@ -12,9 +12,12 @@ use Rattle.held.specs.declared.EventDays.{EventDays}
 use Rattle.held.specs.declared.CountedVisits.{CountedVisits}
 use Rattle.held.specs.declared.Subject.{Subject}
 
+abbrev pub firstDay : ℕ
+firstDay = 1
+
 -- no day 0 and none over 40,177
 abbrev pub dayInRange : ℕ → Bool
-dayInRange d = both (leb 1 d) (leb d lastDayNumber)
+dayInRange d = both (leb firstDay d) (leb d lastDayNumber)
 
 -- a day that is absent has its own mark
 abbrev pub maybeInRange : MaybeDay → Bool

@@ -15,13 +15,13 @@ ghost use Rattle.held.specs.Visits.{evaluableOn, eventAfter, countedAfte
 const STABLE_FROM: u32 = 36;
 
 // A visit before the event that is evaluable.
-fn evaluable_on(day: StudyDay) -> EventDays
-    ensures { λ r. ⌜ r ≡ evaluableOn day ⌝ }
+fn evaluable_on(visit: StudyDay) -> EventDays
+    ensures { λ r. ⌜ r ≡ evaluableOn visit ⌝ }
 {
     EventDays {
         progression: MaybeDay::Absent,
-        previous: day,
-        evaluable: MaybeDay::On(day),
+        previous: visit,
+        evaluable: MaybeDay::On(visit),
     }
 }
 

@@ -6,7 +6,6 @@ use mathlib.Core.List.{List, [], _∷_, _++_, map, map-append, reverse, reverse-
 use Prim.Native.Nat.{ℕ}
 use native.Mathlib.Omega.{arith}
 use lib.Dec.{eqb}
-use borrow.Author.Tests.{eqb-true}
 use Rattle.laws.specs.Choice.{pick}
 use Rattle.records.specs.declared.BaselineEntry.{BaselineEntry}
 use Rattle.records.specs.declared.Entry.{Entry}
@@ -19,21 +18,18 @@ use Rattle.endpoints.specs.StudyRecords.{Baseline, StudyRecord, onStudyDay, onS
 use Rattle.endpoints.specs.Lawful.{Past, latestDay, died, lawfulBehind}
 use Rattle.endpoints.specs.Lasting.{MarksExactOn}
 use Rattle.endpoints.specs.Adding.{isBaseline, tooEarly, misfits, refusalBehind, afterOwn, notBaseline, refusalOfOpening, refusalOfAdding, Call, add, acceptedAfter}
-use Rattle.endpoints.proofs.Refusals.{one-more}
 use Rattle.endpoints.proofs.Calls.{none-of-both, accepted-lawful, accepted-exact}
 use Rattle.held.specs.declared.Subject.{Subject}
 use Rattle.held.specs.Opening.{openNumber, subjectOf, openedSubject, Opened}
 use Rattle.held.specs.Range.{inRange}
 use Rattle.placing.specs.declared.AddAnswer.{AddAnswer}
-use Rattle.placing.specs.Added.{entryAdded}
-use Rattle.placing.specs.Refusals.{addNumber, refusalOn}
+use Rattle.placing.specs.Refusals.{addNumber}
 use Rattle.held.proofs.Follows.{summary, baselineOf, opening-follows}
-use Rattle.placing.proofs.Follows.{refusal-follows, adding-follows}
 use Rattle.held.specs.declared.OpenAnswer.{OpenAnswer}
 use Rattle.outcome.specs.declared.OutcomeAnswer.{OutcomeAnswer}
 use Rattle.outcome.specs.Promises.{refusalHeld, nextSubject, Added, Reading, outcome, readingValues, outcomeOf, Told}
 use Rattle.outcome.specs.Demand3.{Reply, added, told, Calls, none, adds, reads, outcomeOn, repliesAfter, Without12, SaysOn, Claim, Holds, Demand3}
-use Rattle.outcome.proofs.Follows.{reading-follows}
+use Rattle.outcome.proofs.Follows.{refusal-held, longer-lawful, added-held, refused-held, outcome-held}
 use Rattle.outcome.proofs.Within.{calls-in-range, reading-in-range}
 use Rattle.outcome.proofs.Runs.{runs, readable}
 
@@ -82,20 +78,16 @@ module _ (x : BaselineEntry) (marks : List Bool) (sizes : List ℕ) where
   past-one-more : (rs : List Record) (r : Record) → past (rs ++ (r ∷ [])) ≡ on-day r ∷ past rs
   past-one-more rs r = ap reverse (map-append on-day rs (r ∷ [])) ∙ reverse-append (map on-day rs) (on-day r ∷ [])
 
-  -- the subject is what is held after the records
+  -- what is held after the records
+  abbrev held-after : List Record → Subject
+  held-after rs = summary (x .date) base (past rs)
+
   record Held (rs : List Record) (s : Subject) : Type 0 where
-    same : s ≡ summary (x .date) base (past rs)
+    same : s ≡ held-after rs
     inside : inRange s ≡ true
     lawfully : lawfulBehind base (past rs) ≡ true
 
   -- ---- adding
-
-  refusal-of-adding : (rs : List Record) (r : Record) {s : Subject} → Held rs s → refusalHeld s r ≡ refusalOfAdding (first ∷ rs) r
-  unfolding refusalHeld refusalOfAdding
-  refusal-of-adding rs r {s} h =
-      rw (h .inside)
-      (ap (afterOwn r)
-      (ap (λ (t : Subject). refusalOn t (r .entry) (r .marks)) (h .same) ∙ refusal-follows (x .date) base (past rs) (r .entry) (r .marks) (r .sizes)))
 
   not-12 : (rs : List Record) (r : Record) → Not12 (refusalOfAdding (first ∷ rs) r)
   unfolding refusalOfAdding refusalBehind
@@ -104,36 +96,38 @@ module _ (x : BaselineEntry) (marks : List Bool) (sizes : List ℕ) where
       (behind-not-12 (isBaseline (on-day r)) (died (past rs)) (tooEarly (latestDay (past rs)) (on-day r)) (misfits base (on-day r)))
 
   module _ (rs : List Record) (r : Record) {s t : Subject} {a : AddAnswer} (h : Held rs s) (w : Added s r a t) where
+    inside : inRange (held-after rs) ≡ true
+    inside = ap inRange (sym (h .same)) ∙ h .inside
+
     number : addNumber a ≡ refusalOfAdding (first ∷ rs) r
-    number = w .answer ∙ refusal-of-adding rs r h
+    unfolding refusalOfAdding
+    number = w .answer ∙ ap (λ (u : Subject). refusalHeld u r) (h .same) ∙ refusal-held (x .date) base (past rs) inside r
 
-    inside-after : inRange t ≡ true
-    inside-after = calls-in-range .added w (h .inside)
+    next : t ≡ nextSubject (held-after rs) r
+    next = w .left ∙ ap (λ (u : Subject). nextSubject u r) (h .same)
 
-    refused-held : eqb (refusalOfAdding (first ∷ rs) r) 0 ≡ false → Held rs t
-    unfolding nextSubject
-    refused-held e =
-        let kept : nextSubject s r ≡ s = rw (refusal-of-adding rs r h, e) in
-        record { same = w .left ∙ kept ∙ h .same; inside = inside-after; lawfully = h .lawfully }
-
-    added-held : eqb (refusalOfAdding (first ∷ rs) r) 0 ≡ true → Held (rs ++ (r ∷ [])) t
-    unfolding nextSubject refusalOfAdding
-    added-held e =
-        let none = none-of-both r (refusalBehind base (past rs) (on-day r)) .0 (eqb-true (refusalOfAdding (first ∷ rs) r) 0 e) .1 in
-        let longer = one-more base (past rs) (on-day r) (h .lawfully) .0 none in
-        let next : nextSubject s r ≡ entryAdded s (r .entry) (r .marks) (r .sizes) = rw (refusal-of-adding rs r h, e) in
-        let follows = ap (λ (s : Subject). entryAdded s (r .entry) (r .marks) (r .sizes)) (h .same)
-        ∙ adding-follows (x .date) base (past rs) (r .entry) (r .marks) (r .sizes) longer in
+    kept : eqb (refusalOfAdding (first ∷ rs) r) 0 ≡ false → Held rs t
+    unfolding refusalOfAdding
+    kept e =
         record {
-          same = w .left ∙ next ∙ follows ∙ ap (summary (x .date) base) (sym (past-one-more rs r));
-          inside = inside-after;
-          lawfully = ap (lawfulBehind base) (past-one-more rs r) ∙ longer;
+          same = next ∙ refused-held (x .date) base (past rs) inside r e;
+          inside = calls-in-range .added w (h .inside);
+          lawfully = h .lawfully;
+        }
+
+    grown : eqb (refusalOfAdding (first ∷ rs) r) 0 ≡ true → Held (rs ++ (r ∷ [])) t
+    unfolding refusalOfAdding
+    grown e =
+        record {
+          same = next ∙ added-held (x .date) base (past rs) inside r (h .lawfully) e ∙ ap (summary (x .date) base) (sym (past-one-more rs r));
+          inside = calls-in-range .added w (h .inside);
+          lawfully = ap (lawfulBehind base) (past-one-more rs r) ∙ longer-lawful (x .date) base (past rs) inside r (h .lawfully) e;
         }
 
   -- ---- reading
 
   reading : (rs : List Record) {s : Subject} {o : OutcomeAnswer} → Held rs s → Told s o → readingValues o ≡ outcomeOn (onStudyDays (first ∷ rs))
-  reading rs {s} h w = w .answer ∙ reading-in-range s (h .inside) ∙ ap outcome (ap outcomeOf (h .same) ∙ reading-follows (x .date) base (past rs))
+  reading rs {s} h w = w .answer ∙ reading-in-range s (h .inside) ∙ ap outcome (ap outcomeOf (h .same) ∙ outcome-held (x .date) base (past rs))
 
   -- ---- a list of calls
 
@@ -164,8 +158,8 @@ module _ (x : BaselineEntry) (marks : List Bool) (sizes : List ℕ) where
     where
       go : (z : Bool) → eqb (refusalOfAdding (first ∷ rs) r) 0 ≡ z → (Held (rs ++ (r ∷ [])) t → After (rs ++ (r ∷ [])) cs ys u) →
           (Held rs t → After rs cs ys u) → After rs (add r ∷ cs) (added (addNumber a) ∷ ys) u
-      go true e more same = one-call rs r (number rs r h w) (rs ++ (r ∷ [])) (rw e) (more (added-held rs r h w e))
-      go false e more same = one-call rs r (number rs r h w) rs (rw e) (same (refused-held rs r h w e))
+      go true e more same = one-call rs r (number rs r h w) (rs ++ (r ∷ [])) (rw e) (more (grown rs r h w e))
+      go false e more same = one-call rs r (number rs r h w) rs (rw e) (same (kept rs r h w e))
   after rs h (reads {ys = ys} w c) =
       let later = after rs h c in
       let told-outcome = reading rs h w in

@@ -1,22 +1,57 @@
--- The outcome read from what is held after a list of records is the paper's outcome of the list.
+-- Adding and reading follow the list of the records: on what is held after a list, adding gives what the longer list holds, or refuses as the list
+-- does, and the outcome read is the paper's outcome of the list.
 -- Assumes nothing.
-use mathlib.Core.Path.{_≡_}
+use mathlib.Core.Path.{_≡_, ap}
+use mathlib.Core.Bool.{true, false}
+use mathlib.Core.List.{_∷_}
+use lib.Dec.{eqb}
+use borrow.Author.Tests.{eqb-true}
 use Rattle.dates.specs.declared.Date.{Date}
-use Rattle.endpoints.specs.StudyRecords.{Baseline}
-use Rattle.endpoints.specs.Lawful.{Past, deathDay}
+use Rattle.records.specs.declared.Record.{Record}
+use Rattle.endpoints.specs.StudyRecords.{Baseline, StudyRecord, onStudyDay}
+use Rattle.endpoints.specs.Lawful.{Past, deathDay, lawfulBehind}
 use Rattle.endpoints.specs.Visits.{judged, progression, counting}
 use Rattle.endpoints.specs.Pfs.{beforeEvent, lastEvaluable, pfs}
 use Rattle.endpoints.specs.Best.{best, firstResponse, duration}
 use Rattle.endpoints.specs.Settled.{pfsSettled, bestSettled, durationSettled, outcome}
+use Rattle.endpoints.specs.Adding.{refusalBehind, afterOwn}
+use Rattle.endpoints.proofs.Refusals.{one-more}
+use Rattle.endpoints.proofs.Calls.{none-of-both}
+use Rattle.held.specs.declared.Subject.{Subject}
+use Rattle.held.specs.Range.{inRange}
 use Rattle.held.proofs.Follows.{day-of-maybe, eventOf, countedOf, summary}
-use Rattle.outcome.specs.Promises.{outcomeOf}
+use Rattle.placing.proofs.Follows.{refusal-follows, adding-follows}
+use Rattle.outcome.specs.Promises.{refusalHeld, nextSubject, outcomeOf}
 
-pub reading-follows : (randomisation : Date) (b : Baseline) (p : Past) → outcomeOf (summary randomisation b p) ≡ outcome b p
-unfolding outcomeOf summary eventOf countedOf pfs best duration pfsSettled bestSettled durationSettled
-reading-follows randomisation b p =
-    rw (
-      day-of-maybe (progression b p),
-      day-of-maybe (deathDay p),
-      day-of-maybe (lastEvaluable (beforeEvent (judged b p))),
-      day-of-maybe (firstResponse (counting b p)),
-    )
+module _ (randomisation : Date) (b : Baseline) (p : Past) where
+  abbrev held : Subject
+  held = summary randomisation b p
+
+  module _ (inside : inRange held ≡ true) (r : Record) where
+    abbrev on-day : StudyRecord
+    on-day = onStudyDay randomisation r
+
+    pub refusal-held : refusalHeld held r ≡ afterOwn r (refusalBehind b p on-day)
+    unfolding refusalHeld
+    refusal-held = rw inside (ap (afterOwn r) (refusal-follows randomisation b p (r .entry) (r .marks) (r .sizes)))
+
+    pub longer-lawful : lawfulBehind b p ≡ true → eqb (afterOwn r (refusalBehind b p on-day)) 0 ≡ true → lawfulBehind b (on-day ∷ p) ≡ true
+    longer-lawful l e = one-more b p on-day l .0 (none-of-both r (refusalBehind b p on-day) .0 (eqb-true (afterOwn r (refusalBehind b p on-day)) 0 e) .1)
+
+    pub added-held : lawfulBehind b p ≡ true → eqb (afterOwn r (refusalBehind b p on-day)) 0 ≡ true → nextSubject held r ≡ summary randomisation b (on-day ∷ p)
+    unfolding nextSubject
+    added-held l e = rw (refusal-held, e) (adding-follows randomisation b p (r .entry) (r .marks) (r .sizes) (longer-lawful l e))
+
+    pub refused-held : eqb (afterOwn r (refusalBehind b p on-day)) 0 ≡ false → nextSubject held r ≡ held
+    unfolding nextSubject
+    refused-held e = rw (refusal-held, e)
+
+  pub outcome-held : outcomeOf held ≡ outcome b p
+  unfolding outcomeOf summary eventOf countedOf pfs best duration pfsSettled bestSettled durationSettled
+  outcome-held =
+      cc (
+        day-of-maybe (progression b p),
+        day-of-maybe (deathDay p),
+        day-of-maybe (lastEvaluable (beforeEvent (judged b p))),
+        day-of-maybe (firstResponse (counting b p)),
+      )
