@@ -31,7 +31,7 @@ use Rattle.outcome.specs.Promises.{refusalHeld, nextSubject, Added, Read
 use Rattle.outcome.specs.Demand3.{Reply, added, told, Calls, none, adds, reads, outcomeOn, repliesAfter, Without12, SaysOn, Claim, Holds, Demand3}
 use Rattle.outcome.proofs.Follows.{refusal-held, longer-lawful, added-held, refused-held, outcome-held}
 use Rattle.outcome.proofs.Within.{calls-in-range, reading-in-range}
-use Rattle.outcome.proofs.Runs.{runs, readable}
+use Rattle.outcome.proofs.Runs.{opens, runs, readable}
 
 -- a number that is not 12
 abbrev Not12 : ℕ → Type 0
@@ -219,6 +219,7 @@ pub demand3 : Demand3
 demand3 =
     record {
       holds = λ {b} w z c q. from-opening z c q (b .entry) (b .marks) (b .sizes) w;
+      openingExists = opens;
       callsExist = λ {b} {a} {s} w z cs. runs s cs;
       readingExists = readable;
     }

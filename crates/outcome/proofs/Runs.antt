@@ -7,15 +7,18 @@ use lib.Dec.{eqb}
 use Rattle.laws.specs.Choice.{pick}
 use Rattle.records.specs.declared.Record.{Record}
 use Rattle.dates.specs.Calendar.{dateExists}
-use Rattle.records.specs.Form.{dateOf, kindNumber}
+use Rattle.records.specs.Form.{dateOf, kindNumber, Five}
 use Rattle.records.specs.Refusals.{outsideLimits, notZero, firstOwn, refusalOfRead, refusalOf}
 use Rattle.endpoints.specs.declared.PfsStatus.the-variants as P
 use Rattle.endpoints.specs.declared.BestResponse.the-variants as B
 use Rattle.endpoints.specs.declared.DurationAnswer.the-variants as D
 use Rattle.endpoints.specs.Values.{isRecorded, dayValue, PfsWord, EVENT, CENSORED, Duration, noDuration, forDays, wordOfStatus, bestWord, durationValues}
 use Rattle.endpoints.specs.Best.{bestOf}
-use Rattle.endpoints.specs.Adding.{afterOwn, Call, add, read}
+use Rattle.endpoints.specs.Adding.{afterOwn, notBaseline, refusalOfOpening, Call, add, read}
 use Rattle.held.specs.declared.Subject.{Subject}
+use Rattle.held.specs.declared.OpenAnswer.{OpenAnswer}
+use Rattle.held.specs.declared.OpenAnswer.the-variants as N
+use Rattle.held.specs.Opening.{openNumber, openedSubject, Opened}
 use Rattle.held.specs.Range.{inRange}
 use Rattle.placing.specs.declared.AddAnswer.the-variants as A
 use Rattle.placing.specs.Refusals.{addNumber, earlyOn, misfitOn, refusalOn}
@@ -37,6 +40,24 @@ some-own true outside set = (A.NoSuchDate, refl)
 some-own false true set = (A.OutsideLimits, refl)
 some-own false false true = (A.NotZero, refl)
 some-own false false false = (A.Done, refl)
+
+some-kind : (baseline : Bool) → Some openNumber (pick baseline 0 7)
+some-kind true = (N.Done, refl)
+some-kind false = (N.NotBaseline, refl)
+
+some-own-opening : (noDate outside set : Bool) → Some openNumber (firstOwn noDate outside set)
+some-own-opening true outside set = (N.NoSuchDate, refl)
+some-own-opening false true set = (N.OutsideLimits, refl)
+some-own-opening false false true = (N.NotZero, refl)
+some-own-opening false false false = (N.Done, refl)
+
+pub opens : (b : Record) → Five b → (a : OpenAnswer) × (s : Subject) × Opened b a s
+unfolding refusalOfOpening refusalOfRead
+opens b five =
+    let answer = pick-some openNumber (eqb (refusalOf b) 0) (notBaseline (b .entry)) (refusalOf b)
+    (some-kind (eqb (kindNumber (b .entry)) 1))
+    (some-own-opening (not (dateExists (dateOf (b .entry)))) (outsideLimits (b .entry) (b .marks) (b .sizes)) (notZero (b .entry) (b .marks) (b .sizes))) in
+    (answer .0, openedSubject b, record { answer = answer .1; made = refl; five = five })
 
 some-placing : (second dead early misfit : Bool) → Some addNumber (pick second 8 (pick dead 9 (pick early 10 (pick misfit 11 0))))
 some-placing true dead early misfit = (A.SecondBaseline, refl)

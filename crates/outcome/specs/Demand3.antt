@@ -6,6 +6,7 @@ use mathlib.Core.List.{List, [], _∷_}
 use mathlib.Core.Logic.{_↔_}
 use Prim.Native.Nat.{ℕ}
 use Rattle.records.specs.declared.Record.{Record}
+use Rattle.records.specs.Form.{Five}
 use Rattle.endpoints.specs.Values.{Outcome}
 use Rattle.endpoints.specs.StudyRecords.{Baseline, StudyRecord, baseline, visit, therapy, death, onStudyDays}
 use Rattle.endpoints.specs.Lawful.{lawful}
@@ -96,6 +97,7 @@ pub record Runs (s : Subject) (cs : List Call) : Type 0 where
 pub record Demand3 : Type 0 where
   pub holds : {b : Record} {a : OpenAnswer} {s t : Subject} {cs : List Call} {ys : List Reply} {o : OutcomeAnswer} →
       Opened b a s → openNumber a ≡ 0 → Calls s cs ys t → Told t o → Holds b cs ys o
-  -- every list of calls runs, with a reading after it
+  -- every opening has an answer, and every list of calls runs, with a reading after it
+  pub openingExists : (b : Record) → Five b → (a : OpenAnswer) × (s : Subject) × Opened b a s
   pub callsExist : {b : Record} {a : OpenAnswer} {s : Subject} → Opened b a s → openNumber a ≡ 0 → (cs : List Call) → Runs s cs
   pub readingExists : (s : Subject) → (o : OutcomeAnswer) × Told s o

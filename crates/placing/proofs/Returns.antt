@@ -2,7 +2,7 @@
 -- Assumes nothing.
 use mathlib.Core.Path.{_≡_, refl, sym, _∙_, ap}
 use mathlib.Core.Bool.{Bool, true, false, not, _&&_, _||_}
-use mathlib.Core.List.{List}
+use mathlib.Core.List.{List, []}
 use Prim.Native.Nat.{ℕ, suc}
 use native.Mathlib.Omega.{arith}
 use lib.Dec.{leb, ltb, eqb}
@@ -126,25 +126,23 @@ module _ (s next : Subject) (dead early misfit : Bool) (dq : dead ≡ isRecorded
   pub placed : dead ≡ false → early ≡ false → misfit ≡ false → Placed A.Done next
   placed h k m = record { answer = rw (← dq, h, k, m); left = rw (← dq, h, k, m) }
 
-module _ (s : Subject) (marks : List Bool) (sizes : List ℕ) (next : Subject) (day : StudyDay) (x : AddResult) where
-  pub visit-placed : (v : VisitEntry) (fit : Bool) → day ≡ heldDay (s .randomisation) (v .date) →
+module _ (s next : Subject) (day : StudyDay) (x : AddResult) where
+  pub visit-placed : (v : VisitEntry) (marks : List Bool) (sizes : List ℕ) (fit : Bool) → day ≡ heldDay (s .randomisation) (v .date) →
       fit ≡ fitsBy (s .baseline .count) (s .nontarget) (v .status) marks → next ≡ visitAdded s day v marks sizes →
       Behind s next (refusalBy (isRecorded (dayValue (s .death))) (leb (day .0) (s .latest .0)) (not fit)) (x .answer) (x .subject) →
       PlacesEntry s (E.Visit v) marks sizes (x .answer) (x .subject)
   unfolding refusalOn
-  visit-placed v fit d f n p = rw (n, d, f) at p
+  visit-placed v marks sizes fit d f n p = rw (n, d, f) at p
 
-  pub therapy-placed : (date : Date) → day ≡ heldDay (s .randomisation) date → next ≡ therapyAdded s day →
-      Behind s next (refusalBy (isRecorded (dayValue (s .death))) (ltb (day .0) (s .latest .0)) false) (x .answer) (x .subject) →
-      PlacesEntry s (E.Therapy date) marks sizes (x .answer) (x .subject)
-  unfolding refusalOn
-  therapy-placed date d n p = rw (n, d) at p
+  module _ (date : Date) (d : day ≡ heldDay (s .randomisation) date)
+      (p : Behind s next (refusalBy (isRecorded (dayValue (s .death))) (ltb (day .0) (s .latest .0)) false) (x .answer) (x .subject)) where
+    pub therapy-placed : next ≡ therapyAdded s day → PlacesEntry s (E.Therapy date) [] [] (x .answer) (x .subject)
+    unfolding refusalOn
+    therapy-placed n = rw (n, d) at p
 
-  pub death-placed : (date : Date) → day ≡ heldDay (s .randomisation) date → next ≡ deathAdded s day →
-      Behind s next (refusalBy (isRecorded (dayValue (s .death))) (ltb (day .0) (s .latest .0)) false) (x .answer) (x .subject) →
-      PlacesEntry s (E.Death date) marks sizes (x .answer) (x .subject)
-  unfolding refusalOn
-  death-placed date d n p = rw (n, d) at p
+    pub death-placed : next ≡ deathAdded s day → PlacesEntry s (E.Death date) [] [] (x .answer) (x .subject)
+    unfolding refusalOn
+    death-placed n = rw (n, d) at p
 
 -- by the record's kind
 module _ (s : Subject) (e : Entry) (marks : List Bool) (sizes : List ℕ) (x : AddResult) where
@@ -157,10 +155,12 @@ module _ (s : Subject) (e : Entry) (marks : List Bool) (sizes : List ℕ) (x : A
       PlacesEntry s e marks sizes (x .answer) (x .subject)
   of-visit v q p = rw q p
 
-  pub of-therapy : (d : Date) → e ≡ E.Therapy d → PlacesEntry s (E.Therapy d) marks sizes (x .answer) (x .subject) →
+  pub of-therapy : (d : Date) → e ≡ E.Therapy d → PlacesEntry s (E.Therapy d) [] [] (x .answer) (x .subject) →
       PlacesEntry s e marks sizes (x .answer) (x .subject)
+  unfolding refusalOn
   of-therapy d q p = rw q p
 
-  pub of-death : (d : Date) → e ≡ E.Death d → PlacesEntry s (E.Death d) marks sizes (x .answer) (x .subject) →
+  pub of-death : (d : Date) → e ≡ E.Death d → PlacesEntry s (E.Death d) [] [] (x .answer) (x .subject) →
       PlacesEntry s e marks sizes (x .answer) (x .subject)
+  unfolding refusalOn
   of-death d q p = rw q p

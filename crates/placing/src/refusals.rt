@@ -14,6 +14,7 @@ use records::Record;
 use records::VisitEntry;
 use results::is_recorded;
 ghost use mathlib.Core.Path.{_≡_};
+ghost use mathlib.Core.List.{[]};
 ghost use Rattle.records.specs.declared.Entry.the-variants as E;
 ghost use Rattle.endpoints.specs.Values.{isRecorded, dayValue};
 ghost use Rattle.placing.specs.Added.{heldDay};
@@ -68,23 +69,23 @@ fn place_visit(s: Subject, v: VisitEntry, measured: [bool; 5], sizes: [u16; 5]) 
     place_behind(s, day.0 <= s.latest.0, !fit, visited)
 }
 
-fn place_therapy(s: Subject, date: Date, marks: [bool; 5], sizes: [u16; 5]) -> AddResult
-    ensures { λ x. ⌜ PlacesEntry s (E.Therapy date) marks sizes (x .answer) (x .subject) ⌝ }
+fn place_therapy(s: Subject, date: Date) -> AddResult
+    ensures { λ x. ⌜ PlacesEntry s (E.Therapy date) [] [] (x .answer) (x .subject) ⌝ }
 {
     let day = held_day(s.randomisation, date);
     let treated = with_therapy(s, day);
     place_behind(s, day.0 < s.latest.0, false, treated)
 }
 
-fn place_death(s: Subject, date: Date, marks: [bool; 5], sizes: [u16; 5]) -> AddResult
-    ensures { λ x. ⌜ PlacesEntry s (E.Death date) marks sizes (x .answer) (x .subject) ⌝ }
+fn place_death(s: Subject, date: Date) -> AddResult
+    ensures { λ x. ⌜ PlacesEntry s (E.Death date) [] [] (x .answer) (x .subject) ⌝ }
 {
     let day = held_day(s.randomisation, date);
     let dead = with_death(s, day);
     place_behind(s, day.0 < s.latest.0, false, dead)
 }
 
-// The record's own refusals have been judged before.
+// The record's own refusals are judged before. A therapy and a death have nothing beside the date.
 pub fn place(s: Subject, r: Record) -> AddResult
     ensures { λ x. ⌜ Places s r (x .answer) (x .subject) ⌝ }
 {
@@ -94,7 +95,7 @@ pub fn place(s: Subject, r: Record) -> AddResult
     match entry {
         Entry::Baseline(_) => refused(s, AddAnswer::SecondBaseline),
         Entry::Visit(v) => place_visit(s, v, marks, sizes),
-        Entry::Therapy(date) => place_therapy(s, date, marks, sizes),
-        Entry::Death(date) => place_death(s, date, marks, sizes),
+        Entry::Therapy(date) => place_therapy(s, date),
+        Entry::Death(date) => place_death(s, date),
     }
 }
