@@ -1,4 +1,5 @@
--- `outcome::adding::add` meets its contract: a walk of its MIR, by hand. The borrow is opened, the subject is copied out and passed to `step` with the record, what `step` made is stored behind the borrow, and the borrow is closed.
+-- `outcome::adding::add` meets its contract, by a walk of its MIR: the borrow is opened, the subject is copied out and passed to `step` with the
+-- record, what `step` made is stored behind the borrow, and the borrow is closed.
 -- Nothing here looks into the fields of a subject or of a record: the types' laws give each machine value, and that it has its MIR type.
 -- Assumes nothing.
 use mathlib.Core.Path.{_≡_, refl, ap, subst}
