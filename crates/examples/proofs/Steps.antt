@@ -11,7 +11,6 @@ use Rattle.codec.specs.Bytes.{recordLength}
 use Rattle.codec.specs.Reading.{recordOfBytes}
 use Rattle.endpoints.specs.Adding.{Call}
 use Rattle.held.specs.declared.Subject.{Subject}
-use Rattle.held.specs.Range.{inRange}
 use Rattle.held.specs.Opening.{blank, Opened}
 use Rattle.placing.specs.declared.AddAnswer.{AddAnswer}
 use Rattle.held.specs.declared.OpenAnswer.{OpenAnswer}
@@ -64,9 +63,7 @@ module _ (l : List ℕ) (count k : ℕ) where
 -- no call changes the blank
 blank-stays : {s t : Subject} {cs : List Call} {ys : List Reply} → s ≡ blank → Calls s cs ys t → t ≡ blank
 blank-stays e none = e
-blank-stays e (adds {a = a} w c) =
-    let twelve = calls-in-range .addedOutside w (ap inRange e ∙ calls-in-range .blankOutside) in
-    blank-stays (calls-in-range .notAdded w (λ z. let f : ⊥ = omega (arith, twelve, z) in f) ∙ e) c
+blank-stays e (adds {t = t} {r = r} {a = a} w c) = blank-stays (calls-in-range .addedToBlank (subst (λ (x : Subject). Added x r a t) e w) .1) c
 blank-stays e (reads w c) = blank-stays e c
 
 pub empty : (l : List ℕ) → length l / 11 ≡ 0 → Replayed (recordsIn l) A.OutOfRange
@@ -77,7 +74,9 @@ pub replayed : (l : List ℕ) (b : Record) (a : OpenAnswer) (s t : Subject) (o :
 replayed l b a s t o h be w c q =
     subst (λ (rs : List Record). Replayed rs o) whole (
       λ accepts. demand3 .holds w (w .answer ∙ accepts) (c .calls) q .claim,
-      λ refuses. calls-in-range .toldOutside q (ap inRange (blank-stays (calls-in-range .notOpened w (λ z. refuses (sym (w .answer) ∙ z))) (c .calls)) ∙ calls-in-range .blankOutside),
+      λ refuses.
+          let blank-left = blank-stays (calls-in-range .notOpened w (λ z. refuses (sym (w .answer) ∙ z))) (c .calls) in
+          calls-in-range .toldOfBlank (subst (λ (x : Subject). Told x o) blank-left q),
     )
   where
     whole : b ∷ from l (length l / 11) 1 ≡ recordsIn l

@@ -72,6 +72,6 @@ pub(crate) fn outcome(name: &[u8], o: OutcomeAnswer) {
     text(name);
     match o {
         OutcomeAnswer::OutOfRange => text(b"R 12\n"),
-        OutcomeAnswer::Told(r) => told(r),
+        OutcomeAnswer::Read(r) => told(r),
     }
 }

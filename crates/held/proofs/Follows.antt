@@ -23,7 +23,7 @@ use Rattle.endpoints.specs.Visits.{visitsOf, therapyRecorded, Judged, judged, f
 use Rattle.endpoints.specs.Pfs.{beforeEvent, lastVisit, lastEvaluable}
 use Rattle.endpoints.specs.Best.{isCR, isResponse, mayStandBetween, confirmDays, farApart, completeBefore, confirmedCR, responseBefore, confirmedResponse, stable, firstResponse}
 use Rattle.held.specs.declared.EventDays.{EventDays}
-use Rattle.held.specs.declared.CountedVisits.{CountedVisits}
+use Rattle.held.specs.declared.CountingVisits.{CountingVisits}
 use Rattle.held.specs.declared.Subject.{Subject}
 use Rattle.held.specs.Opening.{firstSubject}
 use Rattle.held.specs.Visits.{firstOf, farAfter, eventAfter, countedAfter}
@@ -41,7 +41,7 @@ pub day-of-maybe : (x : Day) → dayValue (maybe x) ≡ x
 day-of-maybe none = refl
 day-of-maybe (on d) = refl
 
--- the first CR of the visits of CR and NE that the list ends in
+-- the first CR since which every visit was CR or NE
 abbrev crStart : List Judged → Day
 crStart [] = none
 crStart (j ∷ js) = pick (isCR (j .answer)) (crStart js orElse on (j .day)) (pick (mayStandBetween (j .answer)) (crStart js) none)
@@ -51,7 +51,7 @@ unfoldable pub eventOf : List Judged → EventDays
 eventOf js =
     record { progression = maybe (firstPD js); previous = at (lastVisit (beforeEvent js)); evaluable = maybe (lastEvaluable (beforeEvent js)) }
 
-unfoldable pub countedOf : List Judged → CountedVisits
+unfoldable pub countedOf : List Judged → CountingVisits
 countedOf js =
     record {
       first = maybe (firstResponse js);

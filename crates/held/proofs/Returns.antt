@@ -17,7 +17,7 @@ use Rattle.endpoints.specs.declared.MaybeDay.{MaybeDay}
 use Rattle.endpoints.specs.declared.MaybeDay.the-variants as M
 use Rattle.endpoints.specs.Values.{isRecorded, dayValue}
 use Rattle.held.specs.declared.EventDays.{EventDays}
-use Rattle.held.specs.declared.CountedVisits.{CountedVisits}
+use Rattle.held.specs.declared.CountingVisits.{CountingVisits}
 use Rattle.held.specs.Range.{dayInRange, maybeInRange}
 use Rattle.held.specs.Opening.{noVisits, nothingCounted, firstSubject, blank, openNumber, subjectOf, OpensChecked, openedSubject, Opened}
 use Rattle.held.specs.Visits.{firstOf, farAfter, evaluableOn, eventAfter, countedAfter}
@@ -83,7 +83,7 @@ module _ (e : EventDays) (d : StudyDay) (answer : Overall) (x : Bool) (p : x ≡
       unfolding eventAfter
       evaluable-sd q = v ∙ rw (← p, h, q)
 
-module _ (c : CountedVisits) (d : StudyDay) (answer : Overall) where
+module _ (c : CountingVisits) (d : StudyDay) (answer : Overall) where
   module _ (f : MaybeDay) (y : Bool) (fq : f ≡ firstOf (c .first) d) (yq : y ≡ farAfter (c .first) (d .0)) where
     pub counted-cr : (s : MaybeDay) (x : Bool) → answer ≡ O.CR → s ≡ firstOf (c .start) d → x ≡ farAfter (c .start) (d .0) →
         record { first = f; start = s; cr = x || c .cr; pr = y || c .pr; sd = leb 36 (d .0) || c .sd; pd = c .pd } ≡ countedAfter c d (overallWord answer)
@@ -111,7 +111,7 @@ module _ (c : CountedVisits) (d : StudyDay) (answer : Overall) where
 
 -- ---- whole subjects
 
-pub blank-made : (e : EventDays) (c : CountedVisits) → e ≡ noVisits (record { 0 = 0 }) → c ≡ nothingCounted →
+pub blank-made : (e : EventDays) (c : CountingVisits) → e ≡ noVisits (record { 0 = 0 }) → c ≡ nothingCounted →
     record {
       randomisation = ymd 0 0 0;
       nontarget = false;
@@ -127,7 +127,7 @@ pub blank-made : (e : EventDays) (c : CountedVisits) → e ≡ noVisits (record 
 unfolding blank
 blank-made e c p q = rw (p, q)
 
-pub first-made : (b : BaselineEntry) (nodes : List Bool) (sizes : List ℕ) (a : BaselineAnswer) (e : EventDays) (c : CountedVisits) →
+pub first-made : (b : BaselineEntry) (nodes : List Bool) (sizes : List ℕ) (a : BaselineAnswer) (e : EventDays) (c : CountingVisits) →
     JudgesBaseline b nodes sizes a → e ≡ noVisits (record { 0 = 1 }) → c ≡ nothingCounted →
     record {
       randomisation = b .date;

@@ -23,7 +23,7 @@ use Rattle.endpoints.specs.declared.MaybeDay.the-variants as M
 use Rattle.endpoints.specs.Values.{isRecorded, dayValue}
 use Rattle.endpoints.specs.Best.{isCR, isResponse, mayStandBetween}
 use Rattle.held.specs.declared.EventDays.{EventDays}
-use Rattle.held.specs.declared.CountedVisits.{CountedVisits}
+use Rattle.held.specs.declared.CountingVisits.{CountingVisits}
 use Rattle.held.specs.declared.Subject.{Subject}
 use Rattle.held.specs.Range.{firstDay, dayInRange, maybeInRange, eventInRange, largestSum, inRange}
 use Rattle.held.specs.Opening.{firstSubject, blank}
@@ -139,18 +139,15 @@ module _ (d : StudyDay) (w : Within (d .0)) where
 
   pub event-within : (e : EventDays) (a : Word) → EventWithin e → EventWithin (eventAfter e d a)
   unfolding eventAfter
-  event-within e a h = go (isRecorded (dayValue (e .progression))) (isPD a)
+  event-within e a h = go (isRecorded (dayValue (e .progression))) refl (isPD a) refl (evaluable a) refl
     where
-      go : (x y : Bool) →
-          EventWithin
-          (pick x e
-          (pick y (record { progression = M.On d; previous = e .previous; evaluable = e .evaluable })
-          (record { progression = M.Absent; previous = d; evaluable = pick (evaluable a) (M.On d) (e .evaluable) })))
-      go true y = h
-      go false true = record { previous = h .previous; progression = w; evaluable = h .evaluable }
-      go false false = record { previous = w; progression = tt; evaluable = pick-within (evaluable a) (M.On d) (e .evaluable) w (h .evaluable) }
+      go : (x : Bool) → isRecorded (dayValue (e .progression)) ≡ x → (y : Bool) → isPD a ≡ y → (z : Bool) → evaluable a ≡ z → EventWithin (eventAfter e d a)
+      go true p y q z r = rw p h
+      go false p true q z r = rw (p, q) (record { previous = h .previous; progression = w; evaluable = h .evaluable })
+      go false p false q true r = rw (p, q, r) (record { previous = w; progression = tt; evaluable = w })
+      go false p false q false r = rw (p, q, r) (record { previous = w; progression = tt; evaluable = h .evaluable })
 
-  pub counted-within : (c : CountedVisits) (a : Word) → CountedWithin c → CountedWithin (countedAfter c d a)
+  pub counted-within : (c : CountingVisits) (a : Word) → CountedWithin c → CountedWithin (countedAfter c d a)
   unfolding countedAfter
   counted-within c a h =
       record {

@@ -8,7 +8,7 @@ use Rattle.dates.specs.Calendar.{dateExists}
 use Rattle.endpoints.specs.declared.MaybeDay.{MaybeDay}
 use Rattle.endpoints.specs.declared.MaybeDay.the-variants as M
 use Rattle.held.specs.declared.EventDays.{EventDays}
-use Rattle.held.specs.declared.CountedVisits.{CountedVisits}
+use Rattle.held.specs.declared.CountingVisits.{CountingVisits}
 use Rattle.held.specs.declared.Subject.{Subject}
 use Rattle.held.specs.Range.{inRange}
 use Rattle.held.specs.Opening.{blank}
@@ -25,7 +25,7 @@ pub record EventWithin (e : EventDays) : Type 0 where
   pub progression : AbsentOrWithin (e .progression)
   pub evaluable : AbsentOrWithin (e .evaluable)
 
-pub record CountedWithin (c : CountedVisits) : Type 0 where
+pub record CountedWithin (c : CountingVisits) : Type 0 where
   pub first : AbsentOrWithin (c .first)
   pub start : AbsentOrWithin (c .start)
 

@@ -20,14 +20,14 @@ use Rattle.endpoints.specs.Adding.{notBaseline, refusalOfOpening}
 use Rattle.held.specs.declared.OpenAnswer.{OpenAnswer}
 use Rattle.held.specs.declared.OpenAnswer.the-variants as O
 use Rattle.held.specs.declared.EventDays.{EventDays}
-use Rattle.held.specs.declared.CountedVisits.{CountedVisits}
+use Rattle.held.specs.declared.CountingVisits.{CountingVisits}
 use Rattle.held.specs.declared.Subject.{Subject}
 
 -- no progression and no evaluable visit; v is the day given
 abbrev pub noVisits : StudyDay → EventDays
 noVisits day = record { progression = M.Absent; previous = day; evaluable = M.Absent }
 
-abbrev pub nothingCounted : CountedVisits
+abbrev pub nothingCounted : CountingVisits
 nothingCounted = record { first = M.Absent; start = M.Absent; cr = false; pr = false; sd = false; pd = false }
 
 -- the latest day and v start at 1

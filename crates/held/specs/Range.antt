@@ -9,7 +9,7 @@ use Rattle.records.specs.Refusals.{mostTargets, largestSize}
 use Rattle.endpoints.specs.declared.MaybeDay.{MaybeDay}
 use Rattle.endpoints.specs.declared.MaybeDay.the-variants as M
 use Rattle.held.specs.declared.EventDays.{EventDays}
-use Rattle.held.specs.declared.CountedVisits.{CountedVisits}
+use Rattle.held.specs.declared.CountingVisits.{CountingVisits}
 use Rattle.held.specs.declared.Subject.{Subject}
 
 abbrev pub firstDay : ℕ
@@ -31,7 +31,7 @@ largestSum = mostTargets * largestSize
 abbrev pub eventInRange : EventDays → Bool
 eventInRange e = both (dayInRange (e .previous .0)) (both (maybeInRange (e .progression)) (maybeInRange (e .evaluable)))
 
-abbrev pub countedInRange : CountedVisits → Bool
+abbrev pub countedInRange : CountingVisits → Bool
 countedInRange c = both (maybeInRange (c .first)) (maybeInRange (c .start))
 
 -- the randomisation date, the target count, the sums and the days

@@ -12,7 +12,7 @@ use Rattle.endpoints.specs.declared.MaybeDay.the-variants as M
 use Rattle.endpoints.specs.Values.{isRecorded, dayValue}
 use Rattle.endpoints.specs.Best.{isCR, isResponse, isStableOrBetter, mayStandBetween, stableFrom, farApart}
 use Rattle.held.specs.declared.EventDays.{EventDays}
-use Rattle.held.specs.declared.CountedVisits.{CountedVisits}
+use Rattle.held.specs.declared.CountingVisits.{CountingVisits}
 
 abbrev pub firstOf : MaybeDay → StudyDay → MaybeDay
 firstOf M.Absent d = M.On d
@@ -32,10 +32,11 @@ unfoldable pub eventAfter : EventDays → StudyDay → Word → EventDays
 eventAfter e d answer =
     pick (isRecorded (dayValue (e .progression))) e
     (pick (isPD answer) (record { progression = M.On d; previous = e .previous; evaluable = e .evaluable })
-    (record { progression = M.Absent; previous = d; evaluable = pick (evaluable answer) (M.On d) (e .evaluable) }))
+    (pick (evaluable answer) (evaluableOn d)
+    (record { progression = M.Absent; previous = d; evaluable = e .evaluable })))
 
 -- one counting visit more
-unfoldable pub countedAfter : CountedVisits → StudyDay → Word → CountedVisits
+unfoldable pub countedAfter : CountingVisits → StudyDay → Word → CountingVisits
 countedAfter c d answer =
     record {
       first = pick (isResponse answer) (firstOf (c .first) d) (c .first);

@@ -26,10 +26,10 @@ pub struct EventDays {
 }
 
 // What the counting visits show.
-pub struct CountedVisits {
+pub struct CountingVisits {
     // The first CR or PR.
     pub first: MaybeDay,
-    // The first CR of the visits of CR and NE that they end in.
+    // The first CR since which every one was CR or NE.
     pub start: MaybeDay,
     // Two CR visits far enough apart with only CR or NE between.
     pub cr: bool,
@@ -52,7 +52,7 @@ pub struct Subject {
     pub therapy: bool,
     pub death: MaybeDay,
     pub event: EventDays,
-    pub counted: CountedVisits,
+    pub counted: CountingVisits,
 }
 
 pub enum OpenAnswer {

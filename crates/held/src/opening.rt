@@ -1,5 +1,5 @@
 // Opening: the subject after a baseline, and the blank that stands beside a refusal.
-use super::CountedVisits;
+use super::CountingVisits;
 use super::EventDays;
 use super::OpenAnswer;
 use super::OpenResult;
@@ -26,10 +26,10 @@ fn no_visits(day: StudyDay) -> EventDays
     }
 }
 
-fn nothing_counted() -> CountedVisits
+fn nothing_counted() -> CountingVisits
     ensures { λ r. ⌜ r ≡ nothingCounted ⌝ }
 {
-    CountedVisits {
+    CountingVisits {
         first: MaybeDay::Absent,
         start: MaybeDay::Absent,
         cr: false,

@@ -1,5 +1,5 @@
 // What 12 judges: whether a held subject is in range.
-use super::CountedVisits;
+use super::CountingVisits;
 use super::EventDays;
 use super::Subject;
 use dates::StudyDay;
@@ -36,7 +36,7 @@ fn event_in_range(event: EventDays) -> bool
     day_in_range(event.previous) & (maybe_in_range(progression) & maybe_in_range(evaluable))
 }
 
-fn counted_in_range(counted: CountedVisits) -> bool
+fn counted_in_range(counted: CountingVisits) -> bool
     ensures { λ r. ⌜ r ≡ countedInRange counted ⌝ }
 {
     let first = counted.first;

@@ -1,5 +1,5 @@
 // What one visit more makes of the days of the event and of what the counting visits show.
-use super::CountedVisits;
+use super::CountingVisits;
 use super::EventDays;
 use super::days::far_after;
 use super::days::first_of;
@@ -51,14 +51,14 @@ pub fn event_after(event: EventDays, day: StudyDay, answer: Overall) -> EventDay
     }
 }
 
-pub fn counted_after(c: CountedVisits, day: StudyDay, answer: Overall) -> CountedVisits
+pub fn counted_after(c: CountingVisits, day: StudyDay, answer: Overall) -> CountingVisits
     ensures { λ r. ⌜ r ≡ countedAfter c day (overallWord answer) ⌝ }
 {
     let first = c.first;
     let start = c.start;
     let late = STABLE_FROM <= day.0;
     match answer {
-        Overall::CR => CountedVisits {
+        Overall::CR => CountingVisits {
             first: first_of(first, day),
             start: first_of(start, day),
             cr: far_after(start, day) | c.cr,
@@ -66,7 +66,7 @@ pub fn counted_after(c: CountedVisits, day: StudyDay, answer: Overall) -> Counte
             sd: late | c.sd,
             pd: c.pd,
         },
-        Overall::PR => CountedVisits {
+        Overall::PR => CountingVisits {
             first: first_of(first, day),
             start: MaybeDay::Absent,
             cr: c.cr,
@@ -74,7 +74,7 @@ pub fn counted_after(c: CountedVisits, day: StudyDay, answer: Overall) -> Counte
             sd: late | c.sd,
             pd: c.pd,
         },
-        Overall::SD => CountedVisits {
+        Overall::SD => CountingVisits {
             first: first,
             start: MaybeDay::Absent,
             cr: c.cr,
@@ -82,7 +82,7 @@ pub fn counted_after(c: CountedVisits, day: StudyDay, answer: Overall) -> Counte
             sd: late | c.sd,
             pd: c.pd,
         },
-        Overall::PD => CountedVisits {
+        Overall::PD => CountingVisits {
             first: first,
             start: MaybeDay::Absent,
             cr: c.cr,

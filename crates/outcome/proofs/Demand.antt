@@ -220,6 +220,6 @@ demand3 =
     record {
       holds = λ {b} w z c q. from-opening z c q (b .entry) (b .marks) (b .sizes) w;
       openingExists = opens;
-      callsExist = λ {b} {a} {s} w z cs. runs s cs;
+      callsExist = runs;
       readingExists = readable;
     }

@@ -107,6 +107,6 @@ module _ (s : Subject) (inside : Bool) (iq : inside ≡ inRange s) where
   unfolding readingOf
   not-read h = record { answer = rw (← iq, not-true inside h) }
 
-  pub read-told : (o : OutcomeResult) → not inside ≡ false → outcomeValues o ≡ outcomeOf s → Told s (R.Told o)
+  pub read-told : (o : OutcomeResult) → not inside ≡ false → outcomeValues o ≡ outcomeOf s → Told s (R.Read o)
   unfolding readingOf
   read-told o h q = record { answer = rw (← iq, not-false inside h, q) }

@@ -101,7 +101,7 @@ readable s = go (inRange s) refl
         let best = some-best (s .counted .cr) (s .counted .pr) (s .counted .sd) (s .counted .pd) in
         let duration = some-duration (durationHeld s) in
         let o = outcomeOf s in (
-          R.Told
+          R.Read
               (record {
                 pfs = record { status = status .0; day = record { 0 = pfsHeld s .day } };
                 best = best .0;

@@ -27,10 +27,11 @@ use Rattle.held.specs.Laws.{Within, AbsentOrWithin, SubjectWithin}
 use Rattle.held.proofs.Within.{subject-within, in-range, blank-outside, opening-within}
 use Rattle.placing.specs.declared.AddAnswer.{AddAnswer}
 use Rattle.placing.specs.Added.{entryAdded}
-use Rattle.placing.specs.Refusals.{refusalOn}
+use Rattle.placing.specs.Refusals.{addNumber, refusalOn}
 use Rattle.placing.proofs.Within.{adding-within}
 use Rattle.held.specs.declared.OpenAnswer.{OpenAnswer}
-use Rattle.outcome.specs.Promises.{refusalHeld, nextSubject, Added, outcome, pfsHeld, bestHeld, outcomeOf, readingOf}
+use Rattle.outcome.specs.declared.OutcomeAnswer.{OutcomeAnswer}
+use Rattle.outcome.specs.Promises.{refusalHeld, nextSubject, Added, refused, outcome, readingValues, pfsHeld, bestHeld, outcomeOf, readingOf, Told}
 use Rattle.outcome.specs.Laws.{DurationWithin, TellsWithin, CallsInRange}
 
 -- ---- opening
@@ -109,16 +110,29 @@ tells-within s w =
     let p = pfs-within (s .event .progression) (s .death) (s .event .previous .0) (s .event .evaluable) (w .event .progression) (w .death) (w .event .evaluable) in
     (p, duration-within (bestHeld s) (s .counted .first) (pfsHeld s) (w .counted .first) p)
 
+not-added : {s t : Subject} {r : Record} {a : AddAnswer} → Added s r a t → (addNumber a ≡ 0 → ⊥) → t ≡ s
+unfolding nextSubject
+not-added {s} {t} {r} w n = w .left ∙ rw (ne-eqb (refusalHeld s r) 0 (λ e. n (w .answer ∙ e)))
+
+added-outside : {s t : Subject} {r : Record} {a : AddAnswer} → Added s r a t → inRange s ≡ false → addNumber a ≡ 12
+unfolding refusalHeld
+added-outside w h = w .answer ∙ rw h
+
+told-outside : {s : Subject} {o : OutcomeAnswer} → Told s o → inRange s ≡ false → readingValues o ≡ refused 12
+unfolding readingOf
+told-outside w h = w .answer ∙ rw h
+
 pub calls-in-range : CallsInRange
-unfolding openedSubject nextSubject refusalHeld readingOf
+unfolding openedSubject
 calls-in-range =
     record {
       opened = opened-in-range;
       notOpened = λ {r} w n. w .made ∙ rw (ne-eqb (refusalOfOpening r) 0 (λ e. n (w .answer ∙ e)));
       added = added-in-range;
-      notAdded = λ {s} {t} {r} w n. w .left ∙ rw (ne-eqb (refusalHeld s r) 0 (λ e. n (w .answer ∙ e)));
+      notAdded = not-added;
       told = λ {s} w h. subst TellsWithin (sym (w .answer ∙ reading-in-range s h)) (tells-within s (subject-within s h));
-      addedOutside = λ w h. w .answer ∙ rw h;
-      toldOutside = λ w h. w .answer ∙ rw h;
-      blankOutside = blank-outside;
+      addedOutside = added-outside;
+      toldOutside = told-outside;
+      addedToBlank = λ w. let twelve = added-outside w blank-outside in (twelve, not-added w (λ z. let f : ⊥ = omega (arith, twelve, z) in f));
+      toldOfBlank = λ w. told-outside w blank-outside;
     }

@@ -34,7 +34,8 @@ pub data Calls : Subject → List Call → List Reply → Subject → Type 0 whe
   reads : {s u : Subject} {o : OutcomeAnswer} {cs : List Call} {ys : List Reply} →
       Told s o → Calls s cs ys u → Calls s (read ∷ cs) (told (readingValues o) ∷ ys) u
 
--- the paper's outcome of a list of records in the order recorded; every list of accepted records opens with a baseline, and any other is refused by 7
+-- the paper's outcome of a list of records in the order recorded; every list of accepted records opens with a baseline, and for any other the value is a
+-- refusal by 7, which no reading gives
 abbrev pub outcomeOn : List StudyRecord → Reading
 outcomeOn [] = refused 7
 outcomeOn (baseline b ∷ rs) = outcome (outcomeInOrder b rs)
@@ -55,11 +56,11 @@ replies b cs = repliesAfter (b ∷ []) cs
 abbrev pub Without12 : List Reply → Type 0
 Without12 [] = Unit {0}
 Without12 (added n ∷ ys) = (n ≡ 12 → ⊥) × Without12 ys
-Without12 (told (refused n) ∷ ys) = ⊥
+Without12 (told (refused n) ∷ ys) = (n ≡ 12 → ⊥) × Without12 ys
 Without12 (told (outcome o) ∷ ys) = Without12 ys
 
 -- what a reading says of a baseline and the records behind it: its parts are the paper's outcome, and each mark that it reports is true exactly when no
--- lawful run of further records changes its part
+-- lawful run of further records, whose fields pass 4 and 5, changes its part
 pub record Says (said : Outcome) (b : Baseline) (rs : List StudyRecord) : Type 0 where
   pub pfs : said .pfs ≡ outcomeInOrder b rs .pfs
   pub best : said .best ≡ outcomeInOrder b rs .best
@@ -77,10 +78,12 @@ SaysOn (outcome said) (visit d v ∷ rs) = ⊥
 SaysOn (outcome said) (therapy d ∷ rs) = ⊥
 SaysOn (outcome said) (death d ∷ rs) = ⊥
 
+-- of a reading's answer and the records accepted, baseline first
 abbrev pub Claim : OutcomeAnswer → List Record → Type 0
 Claim o rs = SaysOn (readingValues o) (onStudyDays rs)
 
--- of a baseline opened with, the calls, their replies and a reading after the last of them
+-- of a baseline opened with, the calls, their replies and the answer of a reading after the last of them: each call replied as the paper says, 12 met none,
+-- the records accepted are a lawful list, and the reading says the outcome of that list
 pub record Holds (b : Record) (cs : List Call) (ys : List Reply) (o : OutcomeAnswer) : Type 0 where
   pub replied : ys ≡ replies b cs
   pub without12 : Without12 ys
@@ -97,7 +100,7 @@ pub record Runs (s : Subject) (cs : List Call) : Type 0 where
 pub record Demand3 : Type 0 where
   pub holds : {b : Record} {a : OpenAnswer} {s t : Subject} {cs : List Call} {ys : List Reply} {o : OutcomeAnswer} →
       Opened b a s → openNumber a ≡ 0 → Calls s cs ys t → Told t o → Holds b cs ys o
-  -- every opening has an answer, and every list of calls runs, with a reading after it
+  -- every opening has an answer; from any subject, and so from one that was opened, every list of calls runs, and a reading after it has an answer
   pub openingExists : (b : Record) → Five b → (a : OpenAnswer) × (s : Subject) × Opened b a s
-  pub callsExist : {b : Record} {a : OpenAnswer} {s : Subject} → Opened b a s → openNumber a ≡ 0 → (cs : List Call) → Runs s cs
+  pub callsExist : (s : Subject) (cs : List Call) → Runs s cs
   pub readingExists : (s : Subject) → (o : OutcomeAnswer) × Told s o

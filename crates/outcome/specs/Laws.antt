@@ -35,4 +35,5 @@ pub record CallsInRange : Type 0 where
   -- 12 meets every other subject, the blank among them, before the record
   pub addedOutside : {s t : Subject} {r : Record} {a : AddAnswer} → Added s r a t → inRange s ≡ false → addNumber a ≡ 12
   pub toldOutside : {s : Subject} {o : OutcomeAnswer} → Told s o → inRange s ≡ false → readingValues o ≡ refused 12
-  pub blankOutside : inRange blank ≡ false
+  pub addedToBlank : {t : Subject} {r : Record} {a : AddAnswer} → Added blank r a t → (addNumber a ≡ 12) × (t ≡ blank)
+  pub toldOfBlank : {o : OutcomeAnswer} → Told blank o → readingValues o ≡ refused 12

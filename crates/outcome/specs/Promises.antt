@@ -55,7 +55,7 @@ outcomeValues o =
 
 abbrev pub readingValues : OutcomeAnswer → Reading
 readingValues A.OutOfRange = refused 12
-readingValues (A.Told o) = outcome (outcomeValues o)
+readingValues (A.Read o) = outcome (outcomeValues o)
 
 -- the parts and the marks from what is held
 abbrev pub pfsHeld : Subject → Pfs

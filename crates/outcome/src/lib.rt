@@ -28,5 +28,5 @@ pub struct OutcomeResult {
 
 pub enum OutcomeAnswer {
     OutOfRange,
-    Told(OutcomeResult),
+    Read(OutcomeResult),
 }

@@ -50,5 +50,5 @@ pub fn read_outcome(s: Subject) -> OutcomeAnswer
         return OutcomeAnswer::OutOfRange;
     }
     let outcome = outcome_of(s);
-    OutcomeAnswer::Told(outcome)
+    OutcomeAnswer::Read(outcome)
 }

@@ -27,7 +27,7 @@ use Rattle.response.specs.Judging.{JudgesVisit}
 use Rattle.endpoints.specs.Values.{isRecorded, dayValue}
 use Rattle.endpoints.specs.Lawful.{measuredBeyond, fitsBy}
 use Rattle.held.specs.declared.EventDays.{EventDays}
-use Rattle.held.specs.declared.CountedVisits.{CountedVisits}
+use Rattle.held.specs.declared.CountingVisits.{CountingVisits}
 use Rattle.held.specs.declared.Subject.{Subject}
 use Rattle.placing.specs.declared.AddAnswer.{AddAnswer}
 use Rattle.placing.specs.declared.AddAnswer.the-variants as A
@@ -68,12 +68,12 @@ module _ (count : ℕ) (nontarget : Bool) (s : Status) (measured : List Bool) (x
 
 -- ---- the subject after a record
 
-pub counted-or-closed : (closed : Bool) (c r : CountedVisits) (d : StudyDay) (answer : Overall) → closed ≡ false →
+pub counted-or-closed : (closed : Bool) (c r : CountingVisits) (d : StudyDay) (answer : Overall) → closed ≡ false →
     r ≡ countedAfter c d (overallWord answer) → r ≡ pick closed c (countedAfter c d (overallWord answer))
 counted-or-closed closed c r d answer q h = h ∙ rw q
 
 pub visit-made : (s : Subject) (day : StudyDay) (v : VisitEntry) (measured : List Bool) (sizes : List ℕ) (a : VisitAnswer) (x : Bool)
-    (e : EventDays) (c : CountedVisits) →
+    (e : EventDays) (c : CountingVisits) →
     JudgesVisit (s .baseline) (s .earlier) v measured sizes a → x ≡ isRecorded (dayValue (s .event .progression)) →
     e ≡ eventAfter (s .event) day (overallWord (a .overall)) →
     c ≡ pick (s .therapy || x) (s .counted) (countedAfter (s .counted) day (overallWord (a .overall))) →

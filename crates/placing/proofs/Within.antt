@@ -22,7 +22,7 @@ use Rattle.criteria.specs.declared.Earlier.{Earlier}
 use Rattle.endpoints.specs.Values.{isRecorded, dayValue}
 use Rattle.endpoints.specs.StudyRecords.{studyDay}
 use Rattle.held.specs.declared.Subject.{Subject}
-use Rattle.held.specs.declared.CountedVisits.{CountedVisits}
+use Rattle.held.specs.declared.CountingVisits.{CountingVisits}
 use Rattle.held.specs.Laws.{Within, CountedWithin, SubjectWithin}
 use Rattle.held.proofs.Within.{event-within, counted-within}
 use Rattle.placing.specs.Added.{heldDay, answerOn, closedOn, visitAdded, therapyAdded, deathAdded, entryAdded}
@@ -86,7 +86,7 @@ adding-within s (E.Visit v) marks sizes w r =
       counted = counted-or-not (closedOn s) (counted-within held day (s .counted) answer (w .counted));
     }
   where
-    counted-or-not : {c : CountedVisits} (x : Bool) → CountedWithin c → CountedWithin (pick x (s .counted) c)
+    counted-or-not : {c : CountingVisits} (x : Bool) → CountedWithin c → CountedWithin (pick x (s .counted) c)
     counted-or-not true k = w .counted
     counted-or-not false k = k
 adding-within s (E.Therapy d) marks sizes w r =

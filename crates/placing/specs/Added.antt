@@ -19,7 +19,7 @@ use Rattle.endpoints.specs.StudyRecords.{studyDay}
 use Rattle.held.specs.declared.Subject.{Subject}
 use Rattle.held.specs.Visits.{eventAfter, countedAfter}
 
--- the study day of a date; 0, which is no study day, where it is before randomisation
+-- the study day of a date; 0, which is no study day, where it is before randomisation or either of them does not exist
 abbrev pub heldDay : Date → Date → StudyDay
 heldDay randomisation d = record { 0 = studyDay randomisation d }
 

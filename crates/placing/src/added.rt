@@ -2,7 +2,7 @@
 use criteria::Overall;
 use dates::StudyDay;
 use endpoints::MaybeDay;
-use held::CountedVisits;
+use held::CountingVisits;
 use held::Subject;
 use held::counted_after;
 use held::event_after;
@@ -14,7 +14,7 @@ ghost use Rattle.criteria.specs.Words.{overallWord};
 ghost use Rattle.held.specs.Visits.{countedAfter};
 ghost use Rattle.placing.specs.Added.{visitAdded, therapyAdded, deathAdded};
 
-fn counted_unless(closed: bool, c: CountedVisits, day: StudyDay, answer: Overall) -> CountedVisits
+fn counted_unless(closed: bool, c: CountingVisits, day: StudyDay, answer: Overall) -> CountingVisits
     ensures { λ r. ⌜ r ≡ pick closed c (countedAfter c day (overallWord answer)) ⌝ }
 {
     if closed {
