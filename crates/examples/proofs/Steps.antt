@@ -11,9 +11,9 @@ use Rattle.codec.specs.Bytes.{recordLength}
 use Rattle.codec.specs.Reading.{recordOfBytes}
 use Rattle.endpoints.specs.Adding.{Call}
 use Rattle.held.specs.declared.Subject.{Subject}
-use Rattle.held.specs.Opening.{blank, Opened}
+use Rattle.opening.specs.Opening.{blank, Opened}
 use Rattle.placing.specs.declared.AddAnswer.{AddAnswer}
-use Rattle.held.specs.declared.OpenAnswer.{OpenAnswer}
+use Rattle.opening.specs.declared.OpenAnswer.{OpenAnswer}
 use Rattle.outcome.specs.declared.OutcomeAnswer.{OutcomeAnswer}
 use Rattle.outcome.specs.declared.OutcomeAnswer.the-variants as A
 use Rattle.outcome.specs.Promises.{Added, Told}

@@ -1,16 +1,42 @@
-// The outcome in the lines of the listing.
+// The numbers of answers, and the outcome in the lines of the listing.
 use endpoints::BestResponse;
 use endpoints::DurationAnswer;
 use endpoints::PfsStatus;
+use opening::OpenAnswer;
 use outcome::OutcomeAnswer;
 use outcome::OutcomeResult;
+use placing::AddAnswer;
 
-fn text(line: &[u8]) {
+pub(crate) fn text(line: &[u8]) {
     io::write_all(libc::STDOUT_FILENO, line);
 }
 
 fn number(n: u64) {
     io::print_decimal(libc::STDOUT_FILENO, n);
+}
+
+pub(crate) fn opened(answer: OpenAnswer) {
+    match answer {
+        OpenAnswer::Done => text(b"A 0"),
+        OpenAnswer::NoSuchDate => text(b"A 3"),
+        OpenAnswer::OutsideLimits => text(b"A 4"),
+        OpenAnswer::NotZero => text(b"A 5"),
+        OpenAnswer::NotBaseline => text(b"A 7"),
+    }
+}
+
+pub(crate) fn added(answer: AddAnswer) {
+    match answer {
+        AddAnswer::Done => text(b" 0"),
+        AddAnswer::NoSuchDate => text(b" 3"),
+        AddAnswer::OutsideLimits => text(b" 4"),
+        AddAnswer::NotZero => text(b" 5"),
+        AddAnswer::SecondBaseline => text(b" 8"),
+        AddAnswer::AfterDeath => text(b" 9"),
+        AddAnswer::TooEarly => text(b" 10"),
+        AddAnswer::Misfit => text(b" 11"),
+        AddAnswer::OutOfRange => text(b" 12"),
+    }
 }
 
 fn status(s: PfsStatus) {
@@ -54,7 +80,7 @@ fn told(o: OutcomeResult) {
     let s = pfs.status;
     let b = o.best;
     let d = o.duration;
-    text(b"P ");
+    text(b"\nP ");
     status(s);
     number(pfs.day.0 as u64);
     text(b"\nB ");
@@ -68,10 +94,9 @@ fn told(o: OutcomeResult) {
     text(b"\n");
 }
 
-pub(crate) fn outcome(name: &[u8], o: OutcomeAnswer) {
-    text(name);
+pub(crate) fn outcome(o: OutcomeAnswer) {
     match o {
-        OutcomeAnswer::OutOfRange => text(b"R 12\n"),
+        OutcomeAnswer::OutOfRange => text(b"\nR 12\n"),
         OutcomeAnswer::Read(r) => told(r),
     }
 }

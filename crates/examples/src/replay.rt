@@ -1,6 +1,6 @@
 // A replay of calls: a subject opened with the first record of a byte string, each further one added to it, refused or not, and its outcome
-// read after each.
-use held::Subject;
+// read after each. The answers are printed as they come.
+use super::print;
 use outcome::OutcomeAnswer;
 use records::Record;
 ghost use mathlib.Core.Path.{_≡_};
@@ -24,14 +24,18 @@ pub(crate) fn replay(bytes: &[u8]) -> OutcomeAnswer
     if count == 0 {
         return OutcomeAnswer::OutOfRange;
     }
-    let opening = held::open_subject(record_in(&bytes[0..11]));
-    let mut subject = opening.subject;
+    let opened = opening::open_subject(record_in(&bytes[0..11]));
+    let first = opened.answer;
+    print::opened(first);
+    let mut subject = opened.subject;
     let mut k: usize = 1;
     while k < count {
         let from = k * RECORD_LENGTH;
         let to = from + RECORD_LENGTH;
         k += 1;
         let addition = outcome::added(subject, record_in(&bytes[from..to]));
+        let answer = addition.answer;
+        print::added(answer);
         let next = addition.subject;
         let _between = outcome::read_outcome(next);
         subject = next;

@@ -1,4 +1,4 @@
--- What is held follows the list of the records: a baseline opens it, and one visit more makes of its parts what the longer list gives.
+-- What is held for PFS, best response and duration follows the list of the visits: one visit more makes of it what the longer list gives.
 -- Assumes nothing.
 use mathlib.Core.Path.{_≡_, refl, sym, _∙_}
 use mathlib.Core.Bool.{Bool, true, false}
@@ -10,7 +10,6 @@ use Rattle.laws.specs.Choice.{both, either, pick}
 use Rattle.laws.proofs.Tests.{either-with-false}
 use Rattle.dates.specs.declared.Date.{Date}
 use Rattle.dates.specs.declared.StudyDay.{StudyDay}
-use Rattle.records.specs.declared.BaselineEntry.{BaselineEntry}
 use Rattle.criteria.specs.Words.{Word, CR, PR, SD, PD, NE, NA, NN}
 use Rattle.criteria.specs.Nadir.{leftBy}
 use Rattle.criteria.specs.Overall.{isPD, evaluable}
@@ -25,7 +24,6 @@ use Rattle.endpoints.specs.Best.{isCR, isResponse, mayStandBetween, confirmDays
 use Rattle.held.specs.declared.EventDays.{EventDays}
 use Rattle.held.specs.declared.CountingVisits.{CountingVisits}
 use Rattle.held.specs.declared.Subject.{Subject}
-use Rattle.held.specs.Opening.{firstSubject}
 use Rattle.held.specs.Visits.{firstOf, farAfter, eventAfter, countedAfter}
 use Rattle.held.proofs.Ordered.{UpTo, Falling}
 
@@ -193,11 +191,3 @@ summary randomisation b p =
       event = eventOf (judged b p);
       counted = countedOf (counting b p);
     }
-
-abbrev pub baselineOf : BaselineEntry → List Bool → List ℕ → Baseline
-baselineOf b nodes sizes = record { assessed = b .assessed; nontarget = b .nontarget; count = b .count; nodes = nodes; sizes = sizes }
-
-pub opening-follows : (b : BaselineEntry) (nodes : List Bool) (sizes : List ℕ) →
-    firstSubject b nodes sizes ≡ summary (b .date) (baselineOf b nodes sizes) []
-unfolding firstSubject summary eventOf countedOf
-opening-follows b nodes sizes = refl

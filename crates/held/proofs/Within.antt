@@ -2,21 +2,15 @@
 -- Assumes nothing.
 use mathlib.Core.Path.{_≡_, refl}
 use mathlib.Core.Bool.{Bool, true, false}
-use mathlib.Core.List.{List}
-use Prim.Native.Nat.{ℕ, zero, suc, _+_, _*_, _≤_, _<_}
-use native.Mathlib.Omega.{arith}
-use lib.Dec.{leb, ltb}
-use lib.ListN.{getD}
+use Prim.Native.Nat.{ℕ}
+use lib.Dec.{leb}
 use borrow.Author.Tests.{leb-true, le-leb}
 use Rattle.laws.specs.Choice.{pick}
 use Rattle.laws.proofs.Tests.{both-true}
 use Rattle.dates.specs.Calendar.{lastDayNumber, dateExists}
 use Rattle.dates.specs.declared.StudyDay.{StudyDay}
-use Rattle.records.specs.declared.BaselineEntry.{BaselineEntry}
-use Rattle.records.specs.Refusals.{mostTargets, largestSize}
+use Rattle.records.specs.Refusals.{mostTargets}
 use Rattle.criteria.specs.Words.{Word}
-use Rattle.criteria.specs.Sums.{sumWhere, baselineSum}
-use Rattle.criteria.specs.Nadir.{nadirOf}
 use Rattle.criteria.specs.Overall.{isPD, evaluable}
 use Rattle.endpoints.specs.declared.MaybeDay.{MaybeDay}
 use Rattle.endpoints.specs.declared.MaybeDay.the-variants as M
@@ -26,7 +20,6 @@ use Rattle.held.specs.declared.EventDays.{EventDays}
 use Rattle.held.specs.declared.CountingVisits.{CountingVisits}
 use Rattle.held.specs.declared.Subject.{Subject}
 use Rattle.held.specs.Range.{firstDay, dayInRange, maybeInRange, eventInRange, largestSum, inRange}
-use Rattle.held.specs.Opening.{firstSubject, blank}
 use Rattle.held.specs.Visits.{firstOf, eventAfter, countedAfter}
 use Rattle.held.specs.Laws.{Within, AbsentOrWithin, EventWithin, CountedWithin, SubjectWithin, RangeLaws}
 
@@ -92,39 +85,8 @@ in-range s w =
       maybe-in-range (s .counted .start) (w .counted .start),
     )
 
-pub blank-outside : inRange blank ≡ false
-unfolding inRange blank dateExists
-blank-outside = refl
-
 pub range-laws : RangeLaws
-range-laws = record { exactly = λ s. (subject-within s, in-range s); blankOutside = blank-outside }
-
--- ---- a baseline
-
-sum-most : (marked : ℕ → Bool) (sizes : List ℕ) (n : ℕ) → ((k : ℕ) → k < n → getD sizes k 0 ≤ largestSize) → sumWhere marked sizes n ≤ n * largestSize
-sum-most marked sizes zero small = omega arith
-sum-most marked sizes (suc n) small = go (marked n) (sum-most marked sizes n (λ k h. small k (omega arith))) (small n (omega arith))
-  where
-    go : (x : Bool) → sumWhere marked sizes n ≤ n * largestSize → getD sizes n 0 ≤ largestSize →
-        sumWhere marked sizes n + pick x (getD sizes n 0) 0 ≤ suc n * largestSize
-    go true h k = omega arith
-    go false h k = omega arith
-
-pub opening-within : (b : BaselineEntry) (nodes : List Bool) (sizes : List ℕ) → dateExists (b .date) ≡ true → b .count ≤ mostTargets →
-    ((k : ℕ) → k < mostTargets → getD sizes k 0 ≤ largestSize) → SubjectWithin (firstSubject b nodes sizes)
-unfolding firstSubject nadirOf baselineSum
-opening-within b nodes sizes date count small =
-    let sum = sum-most (λ (i : ℕ). ltb i (b .count)) sizes mostTargets small in
-    record {
-      randomisation = date;
-      count = count;
-      sum = sum;
-      nadir = sum;
-      latest = (omega arith, omega arith);
-      death = tt;
-      event = record { previous = (omega arith, omega arith); progression = tt; evaluable = tt };
-      counted = record { first = tt; start = tt };
-    }
+range-laws = record { exactly = λ s. (subject-within s, in-range s) }
 
 -- ---- one visit more
 

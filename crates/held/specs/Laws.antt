@@ -1,7 +1,7 @@
 -- What document 01, "Where a call stops", says of 12, in its numbers: stated here, proved in proofs/Within.antt.
 -- Assumes nothing.
 use mathlib.Core.Path.{_≡_}
-use mathlib.Core.Bool.{true, false}
+use mathlib.Core.Bool.{true}
 use mathlib.Core.Logic.{_↔_}
 use Prim.Native.Nat.{ℕ, _≤_}
 use Rattle.dates.specs.Calendar.{dateExists}
@@ -11,7 +11,6 @@ use Rattle.held.specs.declared.EventDays.{EventDays}
 use Rattle.held.specs.declared.CountingVisits.{CountingVisits}
 use Rattle.held.specs.declared.Subject.{Subject}
 use Rattle.held.specs.Range.{inRange}
-use Rattle.held.specs.Opening.{blank}
 
 abbrev pub Within : ℕ → Type 0
 Within d = (1 ≤ d) × (d ≤ 40177)
@@ -42,4 +41,3 @@ pub record SubjectWithin (s : Subject) : Type 0 where
 
 pub record RangeLaws : Type 0 where
   pub exactly : (s : Subject) → (inRange s ≡ true) ↔ SubjectWithin s
-  pub blankOutside : inRange blank ≡ false

@@ -1,4 +1,3 @@
 pub mod Range
-pub mod Opening
 pub mod Visits
 pub mod Laws

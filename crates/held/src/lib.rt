@@ -1,5 +1,5 @@
-// What is held of one subject between calls: what a baseline makes it, what one visit more makes of its parts, and whether it is in range
-// (document 01, "Outcome" and "Where a call stops", 12). That the parts follow the list of the records is proved here.
+// What is held of one subject between calls, what one visit more makes of its parts, and whether it is in range (document 01, "Outcome" and
+// "Where a call stops", 12). That these parts follow the list of the visits is proved here.
 use criteria::BaselineDisease;
 use criteria::Earlier;
 use dates::Date;
@@ -9,9 +9,7 @@ use endpoints::MaybeDay;
 mod days; // days.rt: days that may be absent
 mod range; // range.rt: what 12 judges
 mod visits; // visits.rt: the days and the best response after one visit more
-mod opening; // opening.rt: the subject that a baseline opens
 
-pub use opening::open_subject;
 pub use range::in_range;
 pub use visits::counted_after;
 pub use visits::event_after;
@@ -53,18 +51,4 @@ pub struct Subject {
     pub death: MaybeDay,
     pub event: EventDays,
     pub counted: CountingVisits,
-}
-
-pub enum OpenAnswer {
-    Done,
-    NoSuchDate,
-    OutsideLimits,
-    NotZero,
-    NotBaseline,
-}
-
-// The subject opened; beside a refusal one fixed blank, which adding and reading refuse.
-pub struct OpenResult {
-    pub subject: Subject,
-    pub answer: OpenAnswer,
 }

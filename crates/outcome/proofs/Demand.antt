@@ -20,12 +20,13 @@ use Rattle.endpoints.specs.Lasting.{MarksExactOn}
 use Rattle.endpoints.specs.Adding.{isBaseline, tooEarly, misfits, refusalBehind, afterOwn, notBaseline, refusalOfOpening, refusalOfAdding, Call, add, acceptedAfter}
 use Rattle.endpoints.proofs.Calls.{none-of-both, accepted-lawful, accepted-exact}
 use Rattle.held.specs.declared.Subject.{Subject}
-use Rattle.held.specs.Opening.{openNumber, subjectOf, openedSubject, Opened}
+use Rattle.opening.specs.Opening.{openNumber, subjectOf, openedSubject, Opened}
 use Rattle.held.specs.Range.{inRange}
 use Rattle.placing.specs.declared.AddAnswer.{AddAnswer}
 use Rattle.placing.specs.Refusals.{addNumber}
-use Rattle.held.proofs.Follows.{summary, baselineOf, opening-follows}
-use Rattle.held.specs.declared.OpenAnswer.{OpenAnswer}
+use Rattle.held.proofs.Follows.{summary}
+use Rattle.opening.proofs.Follows.{baselineOf, opening-follows}
+use Rattle.opening.specs.declared.OpenAnswer.{OpenAnswer}
 use Rattle.outcome.specs.declared.OutcomeAnswer.{OutcomeAnswer}
 use Rattle.outcome.specs.Promises.{refusalHeld, nextSubject, Added, Reading, outcome, readingValues, outcomeOf, Told}
 use Rattle.outcome.specs.Demand3.{Reply, added, told, Calls, none, adds, reads, outcomeOn, repliesAfter, Without12, SaysOn, Claim, Holds, Demand3}

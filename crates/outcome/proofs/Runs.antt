@@ -16,9 +16,9 @@ use Rattle.endpoints.specs.Values.{isRecorded, dayValue, PfsWord, EVENT, CENSOR
 use Rattle.endpoints.specs.Best.{bestOf}
 use Rattle.endpoints.specs.Adding.{afterOwn, notBaseline, refusalOfOpening, Call, add, read}
 use Rattle.held.specs.declared.Subject.{Subject}
-use Rattle.held.specs.declared.OpenAnswer.{OpenAnswer}
-use Rattle.held.specs.declared.OpenAnswer.the-variants as N
-use Rattle.held.specs.Opening.{openNumber, openedSubject, Opened}
+use Rattle.opening.specs.declared.OpenAnswer.{OpenAnswer}
+use Rattle.opening.specs.declared.OpenAnswer.the-variants as N
+use Rattle.opening.specs.Opening.{openNumber, openedSubject, Opened}
 use Rattle.held.specs.Range.{inRange}
 use Rattle.placing.specs.declared.AddAnswer.the-variants as A
 use Rattle.placing.specs.Refusals.{addNumber, earlyOn, misfitOn, refusalOn}

@@ -21,15 +21,16 @@ use Rattle.endpoints.specs.Best.{isResponse, durationOf}
 use Rattle.endpoints.specs.Adding.{afterOwn, notBaseline, refusalOfOpening}
 use Rattle.endpoints.proofs.Calls.{none-of-both}
 use Rattle.held.specs.declared.Subject.{Subject}
-use Rattle.held.specs.Opening.{openNumber, subjectOf, openedSubject, Opened}
+use Rattle.opening.specs.Opening.{openNumber, subjectOf, openedSubject, Opened}
 use Rattle.held.specs.Range.{inRange}
 use Rattle.held.specs.Laws.{Within, AbsentOrWithin, SubjectWithin}
-use Rattle.held.proofs.Within.{subject-within, in-range, blank-outside, opening-within}
+use Rattle.held.proofs.Within.{subject-within, in-range}
+use Rattle.opening.proofs.Within.{blank-outside, opening-within}
 use Rattle.placing.specs.declared.AddAnswer.{AddAnswer}
 use Rattle.placing.specs.Added.{entryAdded}
 use Rattle.placing.specs.Refusals.{addNumber, refusalOn}
 use Rattle.placing.proofs.Within.{adding-within}
-use Rattle.held.specs.declared.OpenAnswer.{OpenAnswer}
+use Rattle.opening.specs.declared.OpenAnswer.{OpenAnswer}
 use Rattle.outcome.specs.declared.OutcomeAnswer.{OutcomeAnswer}
 use Rattle.outcome.specs.Promises.{refusalHeld, nextSubject, Added, refused, outcome, readingValues, pfsHeld, bestHeld, outcomeOf, readingOf, Told}
 use Rattle.outcome.specs.Laws.{DurationWithin, TellsWithin, CallsInRange}

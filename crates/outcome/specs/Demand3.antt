@@ -13,10 +13,10 @@ use Rattle.endpoints.specs.Lawful.{lawful}
 use Rattle.endpoints.specs.Lasting.{outcomeInOrder, LastsInOrder}
 use Rattle.endpoints.specs.Adding.{refusalOfAdding, Call, add, read, acceptedAfter, accepted}
 use Rattle.held.specs.declared.Subject.{Subject}
-use Rattle.held.specs.Opening.{openNumber, Opened}
+use Rattle.opening.specs.Opening.{openNumber, Opened}
 use Rattle.placing.specs.declared.AddAnswer.{AddAnswer}
 use Rattle.placing.specs.Refusals.{addNumber}
-use Rattle.held.specs.declared.OpenAnswer.{OpenAnswer}
+use Rattle.opening.specs.declared.OpenAnswer.{OpenAnswer}
 use Rattle.outcome.specs.declared.OutcomeAnswer.{OutcomeAnswer}
 use Rattle.outcome.specs.Promises.{Added, Reading, refused, outcome, readingValues, Told}
 

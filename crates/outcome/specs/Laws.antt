@@ -6,11 +6,11 @@ use Rattle.records.specs.declared.Record.{Record}
 use Rattle.endpoints.specs.Values.{Duration, noDuration, forDays}
 use Rattle.held.specs.declared.Subject.{Subject}
 use Rattle.held.specs.Range.{inRange}
-use Rattle.held.specs.Opening.{blank, openNumber, Opened}
+use Rattle.opening.specs.Opening.{blank, openNumber, Opened}
 use Rattle.held.specs.Laws.{Within}
 use Rattle.placing.specs.declared.AddAnswer.{AddAnswer}
 use Rattle.placing.specs.Refusals.{addNumber}
-use Rattle.held.specs.declared.OpenAnswer.{OpenAnswer}
+use Rattle.opening.specs.declared.OpenAnswer.{OpenAnswer}
 use Rattle.outcome.specs.declared.OutcomeAnswer.{OutcomeAnswer}
 use Rattle.outcome.specs.Promises.{Added, Reading, refused, outcome, readingValues, Told}
 

@@ -1,9 +1,9 @@
--- `held::opening::first_subject` meets its contract.
+-- `opening::first_subject` meets its contract.
 -- Assumes nothing.
 use borrow.Author.Needs.{needs}
-use Rattle.held.proofs.Returns.{first-made}
-use Rattle.held.proofs.opening.first_subject.Statement.{statement}
-use Rattle.held.proofs.opening.first_subject.Tie as tie
+use Rattle.opening.proofs.Returns.{first-made}
+use Rattle.opening.proofs.first_subject.Statement.{statement}
+use Rattle.opening.proofs.first_subject.Tie as tie
 
 pub first-subject-spec : {M : Type 1} → statement M
 first-subject-spec =

@@ -17,11 +17,11 @@ use Rattle.criteria.specs.Inputs.{diseaseOf}
 use Rattle.criteria.specs.Nadir.{leftBy}
 use Rattle.endpoints.specs.declared.MaybeDay.the-variants as M
 use Rattle.endpoints.specs.Adding.{notBaseline, refusalOfOpening}
-use Rattle.held.specs.declared.OpenAnswer.{OpenAnswer}
-use Rattle.held.specs.declared.OpenAnswer.the-variants as O
+use Rattle.opening.specs.declared.OpenAnswer.{OpenAnswer}
+use Rattle.opening.specs.declared.OpenAnswer.the-variants as O
 use Rattle.held.specs.declared.EventDays.{EventDays}
 use Rattle.held.specs.declared.CountingVisits.{CountingVisits}
 use Rattle.held.specs.declared.Subject.{Subject}
 
 -- no progression and no evaluable visit; v is the day given
 abbrev pub noVisits : StudyDay → EventDays

@@ -1,9 +1,9 @@
--- `held::opening::open_subject` meets its contract.
+-- `opening::open_subject` meets its contract.
 -- Assumes nothing.
 use borrow.Author.Needs.{needs}
-use Rattle.held.proofs.Returns.{opens-without-date, opens-outside, opens-not-zero, opens-passed}
-use Rattle.held.proofs.opening.open_subject.Statement.{statement}
-use Rattle.held.proofs.opening.open_subject.Tie as tie
+use Rattle.opening.proofs.Returns.{opens-without-date, opens-outside, opens-not-zero, opens-passed}
+use Rattle.opening.proofs.open_subject.Statement.{statement}
+use Rattle.opening.proofs.open_subject.Tie as tie
 
 pub open-subject-spec : {M : Type 1} → statement M
 open-subject-spec =

@@ -1,20 +1,33 @@
-// Opening: the subject after a baseline, and the blank that stands beside a refusal.
-use super::CountingVisits;
-use super::EventDays;
-use super::OpenAnswer;
-use super::OpenResult;
-use super::Subject;
+// Opening a subject with a baseline (document 01, "Where a call stops", 3 to 5 and 7), and the blank that stands beside a refusal. That what is
+// opened is what is held after the baseline alone is proved here.
 use criteria::BaselineDisease;
 use criteria::Earlier;
 use dates::Date;
 use dates::StudyDay;
 use endpoints::MaybeDay;
+use held::CountingVisits;
+use held::EventDays;
+use held::Subject;
 use records::BaselineEntry;
 use records::CheckAnswer;
 use records::Entry;
 use records::Record;
 ghost use mathlib.Core.Path.{_≡_};
-ghost use Rattle.held.specs.Opening.{noVisits, nothingCounted, firstSubject, blank, OpensChecked, Opened};
+ghost use Rattle.opening.specs.Opening.{noVisits, nothingCounted, firstSubject, blank, OpensChecked, Opened};
+
+pub enum OpenAnswer {
+    Done,
+    NoSuchDate,
+    OutsideLimits,
+    NotZero,
+    NotBaseline,
+}
+
+// The subject opened; beside a refusal one fixed blank, which adding and reading refuse.
+pub struct OpenResult {
+    pub subject: Subject,
+    pub answer: OpenAnswer,
+}
 
 fn no_visits(day: StudyDay) -> EventDays
     ensures { λ r. ⌜ r ≡ noVisits day ⌝ }

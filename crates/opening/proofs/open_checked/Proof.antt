@@ -1,9 +1,9 @@
--- `held::opening::open_checked` meets its contract.
+-- `opening::open_checked` meets its contract.
 -- Assumes nothing.
 use borrow.Author.Needs.{needs}
-use Rattle.held.proofs.Returns.{checked-baseline, checked-visit, checked-therapy, checked-death}
-use Rattle.held.proofs.opening.open_checked.Statement.{statement}
-use Rattle.held.proofs.opening.open_checked.Tie as tie
+use Rattle.opening.proofs.Returns.{checked-baseline, checked-visit, checked-therapy, checked-death}
+use Rattle.opening.proofs.open_checked.Statement.{statement}
+use Rattle.opening.proofs.open_checked.Tie as tie
 
 pub open-checked-spec : {M : Type 1} → statement M
 open-checked-spec =
