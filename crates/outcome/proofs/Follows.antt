@@ -1,27 +1,28 @@
 -- Adding and reading follow the list of the records: on what is held after a list, adding gives what the longer list holds, or refuses as the list
 -- does, and the outcome read is the paper's outcome of the list.
 -- Assumes nothing.
-use mathlib.Core.Path.{_≡_, ap}
+use mathlib.Core.Path.{_≡_, refl, ap}
 use mathlib.Core.Bool.{true, false}
 use mathlib.Core.List.{_∷_}
 use lib.Dec.{eqb}
 use borrow.Author.Tests.{eqb-true}
 use Rattle.dates.specs.declared.Date.{Date}
 use Rattle.records.specs.declared.Record.{Record}
+use Rattle.endpoints.specs.Values.{isRecorded, dayValue}
 use Rattle.endpoints.specs.StudyRecords.{Baseline, StudyRecord, onStudyDay}
-use Rattle.endpoints.specs.Lawful.{Past, deathDay, lawfulBehind}
-use Rattle.endpoints.specs.Visits.{judged, progression, counting}
-use Rattle.endpoints.specs.Pfs.{beforeEvent, lastEvaluable, pfs}
-use Rattle.endpoints.specs.Best.{best, firstResponse, duration}
-use Rattle.endpoints.specs.Settled.{pfsSettled, bestSettled, durationSettled, outcome}
+use Rattle.endpoints.specs.Lawful.{Past, latestDay, deathDay, lawfulBehind}
+use Rattle.endpoints.specs.Visits.{therapyRecorded, judged, progression, counting}
+use Rattle.endpoints.specs.Pfs.{beforeEvent, lastVisit, lastEvaluable, pfsOf, pfs}
+use Rattle.endpoints.specs.Best.{best, firstResponse, durationOf, duration}
+use Rattle.endpoints.specs.Settled.{pfsSettledBy, bestSettledBy, durationSettledBy, pfsSettled, bestSettled, durationSettled, outcome}
 use Rattle.endpoints.specs.Adding.{refusalBehind, afterOwn}
 use Rattle.endpoints.proofs.Refusals.{one-more}
 use Rattle.endpoints.proofs.Calls.{none-of-both}
 use Rattle.held.specs.declared.Subject.{Subject}
 use Rattle.held.specs.Range.{inRange}
-use Rattle.held.proofs.Follows.{day-of-maybe, eventOf, countedOf, summary}
+use Rattle.held.proofs.Follows.{maybe, day-of-maybe, eventOf, countedOf, summary}
 use Rattle.placing.proofs.Follows.{refusal-follows, adding-follows}
-use Rattle.outcome.specs.Promises.{refusalHeld, nextSubject, outcomeOf}
+use Rattle.outcome.specs.Promises.{refusalHeld, nextSubject, pfsHeld, bestHeld, durationHeld, pfsSettledHeld, bestSettledHeld, outcomeOf}
 
 module _ (randomisation : Date) (b : Baseline) (p : Past) where
   abbrev held : Subject
@@ -46,12 +47,45 @@ module _ (randomisation : Date) (b : Baseline) (p : Past) where
     unfolding nextSubject
     refused-held e = rw (refusal-held, e)
 
+  -- ---- the parts of the outcome and the marks
+
+  progression-held : dayValue (maybe (progression b p)) ≡ progression b p
+  progression-held = day-of-maybe (progression b p)
+
+  death-held : dayValue (maybe (deathDay p)) ≡ deathDay p
+  death-held = day-of-maybe (deathDay p)
+
+  pfs-held : pfsHeld held ≡ pfs b p
+  unfolding summary eventOf pfs
+  pfs-held =
+      let evaluable = day-of-maybe (lastEvaluable (beforeEvent (judged b p))) in
+      λ i. pfsOf (progression-held i) (death-held i) (lastVisit (beforeEvent (judged b p))) (evaluable i)
+
+  best-held : bestHeld held ≡ best b p
+  unfolding summary countedOf best
+  best-held = refl
+
+  duration-held : durationHeld held ≡ duration b p
+  unfolding summary countedOf duration
+  duration-held = let response = day-of-maybe (firstResponse (counting b p)) in λ i. durationOf (best-held i) (response i) (pfs-held i)
+
+  pfs-mark-held : pfsSettledHeld held ≡ pfsSettled b p
+  unfolding summary eventOf pfsSettled
+  pfs-mark-held = λ i. pfsSettledBy (b .assessed) (isRecorded (progression-held i)) (isRecorded (death-held i)) (latestDay p)
+
+  best-mark-held : bestSettledHeld held ≡ bestSettled b p
+  unfolding summary eventOf bestSettled
+  best-mark-held = λ i. bestSettledBy (isRecorded (progression-held i)) (therapyRecorded p) (isRecorded (death-held i)) (b .assessed) (best-held i)
+
   pub outcome-held : outcomeOf held ≡ outcome b p
-  unfolding outcomeOf summary eventOf countedOf pfs best duration pfsSettled bestSettled durationSettled
+  unfolding outcomeOf durationSettled
   outcome-held =
-      cc (
-        day-of-maybe (progression b p),
-        day-of-maybe (deathDay p),
-        day-of-maybe (lastEvaluable (beforeEvent (judged b p))),
-        day-of-maybe (firstResponse (counting b p)),
-      )
+      λ i.
+      record {
+        pfs = pfs-held i;
+        best = best-held i;
+        duration = duration-held i;
+        pfsSettled = pfs-mark-held i;
+        bestSettled = best-mark-held i;
+        durationSettled = durationSettledBy (duration-held i) (pfs-mark-held i) (best-mark-held i);
+      }
