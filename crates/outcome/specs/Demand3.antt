@@ -69,7 +69,7 @@ pub record Says (said : Outcome) (b : Baseline) (rs : List StudyRecord) : Type 0
   pub bestMark : (said .bestSettled ≡ true) ↔ LastsInOrder (λ (o : Outcome). o .best) b rs
   pub durationMark : (said .durationSettled ≡ true) ↔ LastsInOrder (λ (o : Outcome). o .duration) b rs
 
--- the reading is no refusal, and the list opens with a baseline
+-- of a reading's values and a list of records: no refusal, the list opens with a baseline, and the outcome says what it should
 abbrev pub SaysOn : Reading → List StudyRecord → Type 0
 SaysOn (refused n) rs = ⊥
 SaysOn (outcome said) [] = ⊥
@@ -96,7 +96,7 @@ pub record Runs (s : Subject) (cs : List Call) : Type 0 where
   pub last : Subject
   pub calls : Calls s cs replied last
 
--- from the subject that an accepted opening made
+-- demand 3, from the subject that an accepted opening made: any list of calls, and a reading after the last of them
 pub record Demand3 : Type 0 where
   pub holds : {b : Record} {a : OpenAnswer} {s t : Subject} {cs : List Call} {ys : List Reply} {o : OutcomeAnswer} →
       Opened b a s → openNumber a ≡ 0 → Calls s cs ys t → Told t o → Holds b cs ys o
