@@ -45,7 +45,7 @@ pub struct Subject {
     pub nontarget: bool,
     pub baseline: BaselineDisease,
     pub earlier: Earlier,
-    // The day of the last record.
+    // The day of the last record, or day 1.
     pub latest: StudyDay,
     pub therapy: bool,
     pub death: MaybeDay,
