@@ -2,6 +2,7 @@ pub mod Values
 pub mod StudyRecords
 pub mod Lawful
 pub mod Visits
+pub mod Lines
 pub mod Pfs
 pub mod Best
 pub mod Settled

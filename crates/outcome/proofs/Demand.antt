@@ -63,30 +63,30 @@ after-own-not-12 r n h = go (eqb (refusalOf r) 0)
     go false = own
 
 module _ (x : BaselineEntry) (marks : List Bool) (sizes : List ℕ) where
-  abbrev first : Record
+  abbrev pub first : Record
   first = record { entry = E.Baseline x; sizes = sizes; marks = marks }
 
-  abbrev base : Baseline
+  abbrev pub base : Baseline
   base = baselineOf x marks sizes
 
-  abbrev on-day : Record → StudyRecord
+  abbrev pub on-day : Record → StudyRecord
   on-day = onStudyDay (x .date)
 
   -- the records behind the baseline, newest first
-  abbrev past : List Record → Past
+  abbrev pub past : List Record → Past
   past rs = reverse (map on-day rs)
 
-  past-one-more : (rs : List Record) (r : Record) → past (rs ++ (r ∷ [])) ≡ on-day r ∷ past rs
+  pub past-one-more : (rs : List Record) (r : Record) → past (rs ++ (r ∷ [])) ≡ on-day r ∷ past rs
   past-one-more rs r = ap reverse (map-append on-day rs (r ∷ [])) ∙ reverse-append (map on-day rs) (on-day r ∷ [])
 
   -- what is held after the records
-  abbrev held-after : List Record → Subject
+  abbrev pub held-after : List Record → Subject
   held-after rs = summary (x .date) base (past rs)
 
-  record Held (rs : List Record) (s : Subject) : Type 0 where
-    same : s ≡ held-after rs
-    inside : inRange s ≡ true
-    lawfully : lawfulBehind base (past rs) ≡ true
+  pub record Held (rs : List Record) (s : Subject) : Type 0 where
+    pub same : s ≡ held-after rs
+    pub inside : inRange s ≡ true
+    pub lawfully : lawfulBehind base (past rs) ≡ true
 
   -- ---- adding
 
@@ -100,7 +100,7 @@ module _ (x : BaselineEntry) (marks : List Bool) (sizes : List ℕ) where
     inside : inRange (held-after rs) ≡ true
     inside = ap inRange (sym (h .same)) ∙ h .inside
 
-    number : addNumber a ≡ refusalOfAdding (first ∷ rs) r
+    pub number : addNumber a ≡ refusalOfAdding (first ∷ rs) r
     unfolding refusalOfAdding
     number = w .answer ∙ ap (λ (u : Subject). refusalHeld u r) (h .same) ∙ refusal-held (x .date) base (past rs) inside r
 
@@ -116,7 +116,7 @@ module _ (x : BaselineEntry) (marks : List Bool) (sizes : List ℕ) where
           lawfully = h .lawfully;
         }
 
-    grown : eqb (refusalOfAdding (first ∷ rs) r) 0 ≡ true → Held (rs ++ (r ∷ [])) t
+    pub grown : eqb (refusalOfAdding (first ∷ rs) r) 0 ≡ true → Held (rs ++ (r ∷ [])) t
     unfolding refusalOfAdding
     grown e =
         record {
@@ -127,7 +127,7 @@ module _ (x : BaselineEntry) (marks : List Bool) (sizes : List ℕ) where
 
   -- ---- reading
 
-  reading : (rs : List Record) {s : Subject} {o : OutcomeAnswer} → Held rs s → Told s o → readingValues o ≡ outcomeOn (onStudyDays (first ∷ rs))
+  pub reading : (rs : List Record) {s : Subject} {o : OutcomeAnswer} → Held rs s → Told s o → readingValues o ≡ outcomeOn (onStudyDays (first ∷ rs))
   reading rs {s} h w = w .answer ∙ reading-in-range s (h .inside) ∙ ap outcome (ap outcomeOf (h .same) ∙ outcome-held (x .date) base (past rs))
 
   -- ---- a list of calls

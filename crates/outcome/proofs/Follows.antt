@@ -25,7 +25,7 @@ use Rattle.placing.proofs.Follows.{refusal-follows, adding-follows}
 use Rattle.outcome.specs.Promises.{refusalHeld, nextSubject, pfsHeld, bestHeld, durationHeld, pfsSettledHeld, bestSettledHeld, outcomeOf}
 
 module _ (randomisation : Date) (b : Baseline) (p : Past) where
-  abbrev held : Subject
+  abbrev pub held : Subject
   held = summary randomisation b p
 
   module _ (inside : inRange held ≡ true) (r : Record) where
@@ -33,18 +33,18 @@ module _ (randomisation : Date) (b : Baseline) (p : Past) where
     on-day = onStudyDay randomisation r
 
     pub refusal-held : refusalHeld held r ≡ afterOwn r (refusalBehind b p on-day)
-    unfolding refusalHeld
+    unfolding refusalHeld summary
     refusal-held = rw inside (ap (afterOwn r) (refusal-follows randomisation b p (r .entry) (r .marks) (r .sizes)))
 
     pub longer-lawful : lawfulBehind b p ≡ true → eqb (afterOwn r (refusalBehind b p on-day)) 0 ≡ true → lawfulBehind b (on-day ∷ p) ≡ true
     longer-lawful l e = one-more b p on-day l .0 (none-of-both r (refusalBehind b p on-day) .0 (eqb-true (afterOwn r (refusalBehind b p on-day)) 0 e) .1)
 
     pub added-held : lawfulBehind b p ≡ true → eqb (afterOwn r (refusalBehind b p on-day)) 0 ≡ true → nextSubject held r ≡ summary randomisation b (on-day ∷ p)
-    unfolding nextSubject
+    unfolding nextSubject summary
     added-held l e = rw (refusal-held, e) (adding-follows randomisation b p (r .entry) (r .marks) (r .sizes) (longer-lawful l e))
 
     pub refused-held : eqb (afterOwn r (refusalBehind b p on-day)) 0 ≡ false → nextSubject held r ≡ held
-    unfolding nextSubject
+    unfolding nextSubject summary
     refused-held e = rw (refusal-held, e)
 
   -- ---- the parts of the outcome and the marks
@@ -55,7 +55,7 @@ module _ (randomisation : Date) (b : Baseline) (p : Past) where
   death-held : dayValue (maybe (deathDay p)) ≡ deathDay p
   death-held = day-of-maybe (deathDay p)
 
-  pfs-held : pfsHeld held ≡ pfs b p
+  pub pfs-held : pfsHeld held ≡ pfs b p
   unfolding summary eventOf pfs
   pfs-held =
       let evaluable = day-of-maybe (lastEvaluable (beforeEvent (judged b p))) in
@@ -65,7 +65,7 @@ module _ (randomisation : Date) (b : Baseline) (p : Past) where
   unfolding summary countedOf best
   best-held = refl
 
-  duration-held : durationHeld held ≡ duration b p
+  pub duration-held : durationHeld held ≡ duration b p
   unfolding summary countedOf duration
   duration-held = let response = day-of-maybe (firstResponse (counting b p)) in λ i. durationOf (best-held i) (response i) (pfs-held i)
 

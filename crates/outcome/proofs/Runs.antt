@@ -24,11 +24,11 @@ use Rattle.placing.specs.declared.AddAnswer.the-variants as A
 use Rattle.placing.specs.Refusals.{addNumber, earlyOn, misfitOn, refusalOn}
 use Rattle.outcome.specs.declared.OutcomeAnswer.{OutcomeAnswer}
 use Rattle.outcome.specs.declared.OutcomeAnswer.the-variants as R
-use Rattle.outcome.specs.Promises.{refusalHeld, nextSubject, pfsHeld, durationHeld, outcomeOf, readingOf, Told}
+use Rattle.outcome.specs.Promises.{dayOn, refusalOnDay, refusalHeld, nextSubject, pfsHeld, durationHeld, outcomeOf, readingOf, Told}
 use Rattle.outcome.specs.Demand3.{none, adds, reads, Runs}
 
 -- some case of a declared answer has the value
-abbrev Some : {A W : Type 0} → (A → W) → W → Type 0
+abbrev pub Some : {A W : Type 0} → (A → W) → W → Type 0
 Some {A} value v = (a : A) × (value a ≡ v)
 
 pick-some : {A W : Type 0} (value : A → W) (x : Bool) (v w : W) → Some value v → Some value w → Some value (pick x v w)
@@ -66,12 +66,12 @@ some-placing false false true misfit = (A.TooEarly, refl)
 some-placing false false false true = (A.Misfit, refl)
 some-placing false false false false = (A.Done, refl)
 
-some-refusal : (s : Subject) (r : Record) → Some addNumber (refusalHeld s r)
+pub some-refusal : (s : Subject) (r : Record) → Some addNumber (refusalHeld s r)
 unfolding refusalHeld refusalOn refusalOfRead
 some-refusal s r =
-    pick-some addNumber (inRange s) (afterOwn r (refusalOn s (r .entry) (r .marks))) 12
-    (pick-some addNumber (eqb (refusalOf r) 0) (refusalOn s (r .entry) (r .marks)) (refusalOf r)
-    (some-placing (eqb (kindNumber (r .entry)) 1) (isRecorded (dayValue (s .death))) (earlyOn s (r .entry)) (misfitOn s (r .entry) (r .marks)))
+    pick-some addNumber (inRange s) (afterOwn r (refusalOnDay s r)) 12
+    (pick-some addNumber (eqb (refusalOf r) 0) (refusalOnDay s r) (refusalOf r)
+    (some-placing (eqb (kindNumber (r .entry)) 1) (isRecorded (dayValue (s .death))) (earlyOn s (dayOn s r) (r .entry)) (misfitOn s (r .entry) (r .marks)))
     (some-own (not (dateExists (dateOf (r .entry)))) (outsideLimits (r .entry) (r .marks) (r .sizes)) (notZero (r .entry) (r .marks) (r .sizes))))
     (A.OutOfRange, refl)
 

@@ -27,12 +27,11 @@ use Rattle.held.specs.Laws.{Within, AbsentOrWithin, SubjectWithin}
 use Rattle.held.proofs.Within.{subject-within, in-range}
 use Rattle.opening.proofs.Within.{blank-outside, opening-within}
 use Rattle.placing.specs.declared.AddAnswer.{AddAnswer}
-use Rattle.placing.specs.Added.{entryAdded}
-use Rattle.placing.specs.Refusals.{addNumber, refusalOn}
+use Rattle.placing.specs.Refusals.{addNumber}
 use Rattle.placing.proofs.Within.{adding-within}
 use Rattle.opening.specs.declared.OpenAnswer.{OpenAnswer}
 use Rattle.outcome.specs.declared.OutcomeAnswer.{OutcomeAnswer}
-use Rattle.outcome.specs.Promises.{refusalHeld, nextSubject, Added, refused, outcome, readingValues, pfsHeld, bestHeld, outcomeOf, readingOf, Told}
+use Rattle.outcome.specs.Promises.{refusalOnDay, addedOnDay, refusalHeld, nextSubject, Added, refused, outcome, readingValues, pfsHeld, bestHeld, outcomeOf, readingOf, Told}
 use Rattle.outcome.specs.Laws.{DurationWithin, TellsWithin, CallsInRange}
 
 -- ---- opening
@@ -61,12 +60,12 @@ added-in-range : {s t : Subject} {r : Record} {a : AddAnswer} → Added s r a t 
 unfolding nextSubject refusalHeld
 added-in-range {s} {t} {r} w h = rw (w .left) (go (eqb (refusalHeld s r) 0) refl)
   where
-    go : (x : Bool) → eqb (refusalHeld s r) 0 ≡ x → inRange (pick x (entryAdded s (r .entry) (r .marks) (r .sizes)) s) ≡ true
+    go : (x : Bool) → eqb (refusalHeld s r) 0 ≡ x → inRange (pick x (addedOnDay s r) s) ≡ true
     go false e = h
     go true e =
-        let none : afterOwn r (refusalOn s (r .entry) (r .marks)) ≡ 0 = rw h at (eqb-true (refusalHeld s r) 0 e) in
-        in-range (entryAdded s (r .entry) (r .marks) (r .sizes))
-        (adding-within s (r .entry) (r .marks) (r .sizes) (subject-within s h) (none-of-both r (refusalOn s (r .entry) (r .marks)) .0 none .1))
+        let none : afterOwn r (refusalOnDay s r) ≡ 0 = rw h at (eqb-true (refusalHeld s r) 0 e) in
+        in-range (addedOnDay s r)
+        (adding-within s (r .entry) (r .marks) (r .sizes) (subject-within s h) (none-of-both r (refusalOnDay s r) .0 none .1))
 
 -- ---- reading
 

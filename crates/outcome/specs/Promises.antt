@@ -5,7 +5,9 @@ use mathlib.Core.Bool.{Bool}
 use Prim.Native.Nat.{ℕ}
 use lib.Dec.{eqb}
 use Rattle.laws.specs.Choice.{pick}
+use Rattle.dates.specs.declared.StudyDay.{StudyDay}
 use Rattle.records.specs.declared.Record.{Record}
+use Rattle.records.specs.Form.{dateOf}
 use Rattle.criteria.specs.Words.{Word}
 use Rattle.endpoints.specs.Values.{isRecorded, Pfs, Duration, Outcome, dayValue, pfsValues, bestWord, durationValues}
 use Rattle.endpoints.specs.Pfs.{pfsOf}
@@ -15,7 +17,7 @@ use Rattle.endpoints.specs.Adding.{afterOwn}
 use Rattle.held.specs.declared.Subject.{Subject}
 use Rattle.held.specs.Range.{inRange}
 use Rattle.placing.specs.declared.AddAnswer.{AddAnswer}
-use Rattle.placing.specs.Added.{entryAdded}
+use Rattle.placing.specs.Added.{heldDay, entryAdded}
 use Rattle.placing.specs.Refusals.{addNumber, refusalOn}
 use Rattle.outcome.specs.declared.OutcomeResult.{OutcomeResult}
 use Rattle.outcome.specs.declared.OutcomeAnswer.{OutcomeAnswer}
@@ -23,13 +25,24 @@ use Rattle.outcome.specs.declared.OutcomeAnswer.the-variants as A
 
 -- ---- adding
 
+-- the study day of a record; 0, which is no study day, where its date has none
+abbrev pub dayOn : Subject → Record → StudyDay
+dayOn s r = heldDay (s .randomisation) (dateOf (r .entry))
+
+-- 8 to 11, and the subject after a record
+abbrev pub refusalOnDay : Subject → Record → ℕ
+refusalOnDay s r = refusalOn s (dayOn s r) (r .entry) (r .marks)
+
+abbrev pub addedOnDay : Subject → Record → Subject
+addedOnDay s r = entryAdded s (dayOn s r) (r .entry) (r .marks) (r .sizes)
+
 -- 12 before the record, then 3 to 5, then 8 to 11; 0 for none
 unfoldable pub refusalHeld : Subject → Record → ℕ
-refusalHeld s r = pick (inRange s) (afterOwn r (refusalOn s (r .entry) (r .marks))) 12
+refusalHeld s r = pick (inRange s) (afterOwn r (refusalOnDay s r)) 12
 
 -- the subject keeps every value where a refusal meets
 unfoldable pub nextSubject : Subject → Record → Subject
-nextSubject s r = pick (eqb (refusalHeld s r) 0) (entryAdded s (r .entry) (r .marks) (r .sizes)) s
+nextSubject s r = pick (eqb (refusalHeld s r) 0) (addedOnDay s r) s
 
 pub record Added (s : Subject) (r : Record) (a : AddAnswer) (t : Subject) : Type 0 where
   pub answer : addNumber a ≡ refusalHeld s r

@@ -5,7 +5,10 @@ use placing::AddResult;
 use records::CheckAnswer;
 use records::Record;
 ghost use mathlib.Core.Path.{_≡_};
-ghost use Rattle.outcome.specs.Promises.{Added};
+ghost use lib.Dec.{eqb};
+ghost use Rattle.laws.specs.Choice.{pick};
+ghost use Rattle.placing.specs.Refusals.{addNumber};
+ghost use Rattle.outcome.specs.Promises.{refusalOnDay, addedOnDay, Added};
 
 fn refused(s: Subject, answer: AddAnswer) -> AddResult
     ensures { λ x. ⌜ (x .answer ≡ answer) × (x .subject ≡ s) ⌝ }
@@ -14,6 +17,17 @@ fn refused(s: Subject, answer: AddAnswer) -> AddResult
         subject: s,
         answer: answer,
     }
+}
+
+// The first of 8 to 11, or the subject after the record.
+fn placed(s: Subject, r: Record) -> AddResult
+    ensures { λ x. ⌜ (addNumber (x .answer) ≡ refusalOnDay s r) × (x .subject ≡ pick (eqb (refusalOnDay s r) 0) (addedOnDay s r) s) ⌝ }
+{
+    let entry = r.entry;
+    let date = records::date_of(entry);
+    let day = placing::held_day(s.randomisation, date);
+    let result = placing::place(s, day, r);
+    result.added
 }
 
 fn step(s: Subject, r: Record) -> AddResult
@@ -26,7 +40,7 @@ fn step(s: Subject, r: Record) -> AddResult
         CheckAnswer::NoSuchDate => refused(s, AddAnswer::NoSuchDate),
         CheckAnswer::OutsideLimits => refused(s, AddAnswer::OutsideLimits),
         CheckAnswer::NotZero => refused(s, AddAnswer::NotZero),
-        CheckAnswer::Passed => placing::place(s, r),
+        CheckAnswer::Passed => placed(s, r),
     }
 }
 

@@ -1,4 +1,5 @@
--- The held subject follows the list of the records: 8 to 11 are judged on it as against the list, and one record more makes of it what the longer list gives.
+-- The held subject follows the list of the records: 8 to 11 are judged on it as against the list, one record more makes of it what the longer list gives,
+-- and its line is that of the list.
 -- Assumes nothing.
 use mathlib.Core.Path.{_≡_, refl, sym, ap}
 use mathlib.Core.Bool.{Bool, true, false}
@@ -9,6 +10,7 @@ use Rattle.laws.proofs.Tests.{never}
 use Rattle.dates.specs.declared.Date.{Date}
 use Rattle.records.specs.declared.Entry.{Entry}
 use Rattle.records.specs.declared.Entry.the-variants as E
+use Rattle.records.specs.Form.{dateOf}
 use Rattle.criteria.specs.Inputs.{Visit}
 use Rattle.criteria.specs.Nadir.{leftBy}
 use Rattle.criteria.proofs.Laws.{nadir-laws}
@@ -16,22 +18,32 @@ use Rattle.endpoints.specs.Values.{Day, on, isRecorded, _orElse_}
 use Rattle.endpoints.specs.StudyRecords.{Baseline, baseline, disease, studyDay, entryOnStudyDay}
 use Rattle.endpoints.specs.Lawful.{Past, deathDay, fits, lawfulBehind}
 use Rattle.endpoints.specs.Visits.{visitsOf, therapyRecorded, Judged, judge, judged, progression, countingClosed, counting}
+use Rattle.endpoints.specs.Lines.{lineOf, linesOf}
 use Rattle.endpoints.specs.Adding.{refusalBehind}
 use Rattle.endpoints.proofs.Behind.{absent, next, latest-is-last}
 use Rattle.held.specs.Visits.{countedAfter}
 use Rattle.held.proofs.Ordered.{Falling, counting-falls}
 use Rattle.held.proofs.Follows.{at, maybe, day-of-maybe, eventOf, countedOf, event-follows, counted-follows, summary}
-use Rattle.placing.specs.Added.{answerOn, visitAdded, therapyAdded, deathAdded, entryAdded}
+use Rattle.placing.specs.Added.{heldDay, answerOn, visitAdded, therapyAdded, deathAdded, entryAdded}
+use Rattle.placing.specs.Lines.{linesOn}
 use Rattle.placing.specs.Refusals.{refusalOn}
 
 module _ (randomisation : Date) (b : Baseline) (p : Past) where
   pub refusal-follows : (e : Entry) (marks : List Bool) (sizes : List ℕ) →
-      refusalOn (summary randomisation b p) e marks ≡ refusalBehind b p (entryOnStudyDay randomisation e marks sizes)
+      refusalOn (summary randomisation b p) (heldDay randomisation (dateOf e)) e marks ≡ refusalBehind b p (entryOnStudyDay randomisation e marks sizes)
   unfolding refusalOn refusalBehind summary fits
   refusal-follows (E.Baseline x) marks sizes = refl
   refusal-follows (E.Visit v) marks sizes = rw (day-of-maybe (deathDay p))
   refusal-follows (E.Therapy d) marks sizes = rw (day-of-maybe (deathDay p))
   refusal-follows (E.Death d) marks sizes = rw (day-of-maybe (deathDay p))
+
+  pub lines-follow : (e : Entry) (marks : List Bool) (sizes : List ℕ) →
+      linesOn (summary randomisation b p) (heldDay randomisation (dateOf e)) e marks sizes ≡ linesOf b p (entryOnStudyDay randomisation e marks sizes)
+  unfolding summary answerOn lineOf
+  lines-follow (E.Baseline x) marks sizes = refl
+  lines-follow (E.Visit v) marks sizes = refl
+  lines-follow (E.Therapy d) marks sizes = refl
+  lines-follow (E.Death d) marks sizes = refl
 
   counted-unless-closed : (x y : Bool) (j : Judged) → x ≡ y → Falling (counting b p) →
       pick x (countedOf (counting b p)) (countedAfter (countedOf (counting b p)) (at (j .day)) (j .answer)) ≡ countedOf (pick y (counting b p) (j ∷ counting b p))
@@ -43,7 +55,7 @@ module _ (randomisation : Date) (b : Baseline) (p : Past) where
       go false = counted-follows j (counting b p) s
 
   pub adding-follows : (e : Entry) (marks : List Bool) (sizes : List ℕ) → lawfulBehind b (entryOnStudyDay randomisation e marks sizes ∷ p) ≡ true →
-      entryAdded (summary randomisation b p) e marks sizes ≡ summary randomisation b (entryOnStudyDay randomisation e marks sizes ∷ p)
+      entryAdded (summary randomisation b p) (heldDay randomisation (dateOf e)) e marks sizes ≡ summary randomisation b (entryOnStudyDay randomisation e marks sizes ∷ p)
   unfolding summary visitAdded therapyAdded deathAdded answerOn judge eventOf
   adding-follows (E.Baseline x) marks sizes l = absurd (never (sym (next b p (entryOnStudyDay randomisation (E.Baseline x) marks sizes) l .place)))
   adding-follows (E.Visit v) marks sizes l =

@@ -2,8 +2,8 @@
 -- Assumes nothing.
 use mathlib.Core.Path.{_≡_, refl, sym, _∙_, ap}
 use mathlib.Core.Bool.{Bool, true, false, not, _&&_, _||_}
-use mathlib.Core.List.{List, []}
-use Prim.Native.Nat.{ℕ, suc}
+use mathlib.Core.List.{List, [], _∷_}
+use Prim.Native.Nat.{ℕ, suc, _-_}
 use native.Mathlib.Omega.{arith}
 use lib.Dec.{leb, ltb, eqb}
 use borrow.Author.Tests.{ne-eqb}
@@ -21,19 +21,23 @@ use Rattle.records.specs.declared.BaselineEntry.{BaselineEntry}
 use Rattle.records.specs.declared.VisitEntry.{VisitEntry}
 use Rattle.records.specs.Form.{statusNumber}
 use Rattle.criteria.specs.declared.Overall.{Overall}
-use Rattle.criteria.specs.Words.{overallWord}
+use Rattle.criteria.specs.Words.{statusWord, overallWord}
 use Rattle.response.specs.declared.VisitAnswer.{VisitAnswer}
 use Rattle.response.specs.Judging.{JudgesVisit}
 use Rattle.endpoints.specs.Values.{isRecorded, dayValue}
 use Rattle.endpoints.specs.Lawful.{measuredBeyond, fitsBy}
+use Rattle.endpoints.specs.Lines.{VisitLine}
 use Rattle.held.specs.declared.EventDays.{EventDays}
 use Rattle.held.specs.declared.CountingVisits.{CountingVisits}
 use Rattle.held.specs.declared.Subject.{Subject}
 use Rattle.placing.specs.declared.AddAnswer.{AddAnswer}
 use Rattle.placing.specs.declared.AddAnswer.the-variants as A
-use Rattle.placing.specs.declared.AddResult.{AddResult}
+use Rattle.placing.specs.declared.JudgedVisit.{JudgedVisit}
+use Rattle.placing.specs.declared.MaybeVisit.the-variants as J
+use Rattle.placing.specs.declared.PlaceResult.{PlaceResult}
 use Rattle.held.specs.Visits.{eventAfter, countedAfter}
 use Rattle.placing.specs.Added.{heldDay, answerOn, visitAdded, therapyAdded, deathAdded}
+use Rattle.placing.specs.Lines.{judgedValues, visitValues, lineJudged, lineOn, Advanced}
 use Rattle.placing.specs.Refusals.{addNumber, refusalBy, refusalOn, Behind, PlacesEntry}
 
 -- ---- whether a status is NA
@@ -104,63 +108,112 @@ module _ (randomisation d : Date) (a : StudyDayAnswer) (e : studyDayValues a ≡
   pub day-of-none : a ≡ T.NoSuchDate → record { 0 = 0 } ≡ heldDay randomisation d
   day-of-none q = let h : _≡_ {A = ℕ} 0 (studyDayOf d randomisation .day) = rw q at (ap (λ (n : Counted). n .day) e) in ap (λ (n : ℕ). record { 0 = n }) h
 
+-- ---- the line of a visit
+
+pub visited-as : (s : Subject) (day : StudyDay) (v : VisitEntry) (measured : List Bool) (sizes : List ℕ) (a : VisitAnswer) (next : Subject) (j : JudgedVisit) →
+    JudgesVisit (s .baseline) (s .earlier) v measured sizes a → next ≡ visitAdded s day v measured sizes → judgedValues j ≡ lineJudged day (v .status) a →
+    Advanced (visitAdded s day v measured sizes) (lineOn s day v measured sizes ∷ [])
+    (record { added = record { subject = next; answer = A.Done }; visit = J.Judged j })
+unfolding answerOn
+visited-as s day v measured sizes a next j w n l =
+    record {
+      answer = refl;
+      left = n;
+      shown =
+          ap (λ (x : VisitLine). x ∷ []) l
+          ∙ (λ i. record { day = day .0; target = w .target i; nontarget = statusWord (v .status); overall = w .overall i; change = w .change i } ∷ []);
+    }
+
 -- ---- 8 to 11
 
-behind-refused : {s next : Subject} {x : AddResult} (refusal : ℕ) (a : AddAnswer) (n : ℕ) → addNumber a ≡ suc n → refusal ≡ suc n →
-    (x .answer ≡ a) × (x .subject ≡ s) → Behind s next refusal (x .answer) (x .subject)
-behind-refused refusal a n p r q = record { answer = ap addNumber (q .0) ∙ p ∙ sym r; left = q .1 ∙ rw (r, ne-eqb (suc n) 0 (omega arith)) }
+behind-refused : {s next : Subject} {lines : List VisitLine} {x : PlaceResult} (refusal : ℕ) (a : AddAnswer) (n : ℕ) → addNumber a ≡ suc n → refusal ≡ suc n →
+    (x .added .answer ≡ a) × (x .added .subject ≡ s) × (x .visit ≡ J.Absent) → Behind s next lines refusal x
+behind-refused refusal a n p r q =
+    let met : eqb refusal 0 ≡ false = rw r (ne-eqb (suc n) 0 (omega arith)) in
+    record { answer = ap addNumber (q .0) ∙ p ∙ sym r; left = q .1 ∙ rw met; shown = ap visitValues (q .2) ∙ rw met }
 
-module _ (s next : Subject) (dead early misfit : Bool) (dq : dead ≡ isRecorded (dayValue (s .death))) where
-  abbrev Placed : AddAnswer → Subject → Type 0
-  Placed a t = Behind s next (refusalBy (isRecorded (dayValue (s .death))) early misfit) a t
+behind-done : {s next : Subject} {lines : List VisitLine} {x : PlaceResult} (refusal : ℕ) → refusal ≡ 0 → Advanced next lines x → Behind s next lines refusal x
+behind-done refusal z w =
+    let none : eqb refusal 0 ≡ true = rw z in
+    record { answer = ap addNumber (w .answer) ∙ sym z; left = w .left ∙ rw none; shown = w .shown ∙ rw none }
 
-  pub after-death : (x : AddResult) → dead ≡ true → (x .answer ≡ A.AfterDeath) × (x .subject ≡ s) → Placed (x .answer) (x .subject)
-  after-death x h q = behind-refused _ A.AfterDeath 8 refl (rw (← dq, h)) q
+module _ (dead early misfit d : Bool) (dq : d ≡ dead) where
+  pub after-death : d ≡ true → 9 ≡ refusalBy dead early misfit
+  after-death h = rw (← dq, h)
 
-  pub too-early : (x : AddResult) → dead ≡ false → early ≡ true → (x .answer ≡ A.TooEarly) × (x .subject ≡ s) → Placed (x .answer) (x .subject)
-  too-early x h k q = behind-refused _ A.TooEarly 9 refl (rw (← dq, h, k)) q
+  pub too-early : d ≡ false → early ≡ true → 10 ≡ refusalBy dead early misfit
+  too-early h k = rw (← dq, h, k)
 
-  pub misfitting : (x : AddResult) → dead ≡ false → early ≡ false → misfit ≡ true → (x .answer ≡ A.Misfit) × (x .subject ≡ s) → Placed (x .answer) (x .subject)
-  misfitting x h k m q = behind-refused _ A.Misfit 10 refl (rw (← dq, h, k, m)) q
+  pub misfitting : d ≡ false → early ≡ false → misfit ≡ true → 11 ≡ refusalBy dead early misfit
+  misfitting h k m = rw (← dq, h, k, m)
 
-  pub placed : dead ≡ false → early ≡ false → misfit ≡ false → Placed A.Done next
-  placed h k m = record { answer = rw (← dq, h, k, m); left = rw (← dq, h, k, m) }
+  pub none-behind : d ≡ false → early ≡ false → misfit ≡ false → 0 ≡ refusalBy dead early misfit
+  none-behind h k m = rw (← dq, h, k, m)
 
-module _ (s next : Subject) (day : StudyDay) (x : AddResult) where
-  pub visit-placed : (v : VisitEntry) (marks : List Bool) (sizes : List ℕ) (fit : Bool) → day ≡ heldDay (s .randomisation) (v .date) →
-      fit ≡ fitsBy (s .baseline .count) (s .nontarget) (v .status) marks → next ≡ visitAdded s day v marks sizes →
-      Behind s next (refusalBy (isRecorded (dayValue (s .death))) (leb (day .0) (s .latest .0)) (not fit)) (x .answer) (x .subject) →
-      PlacesEntry s (E.Visit v) marks sizes (x .answer) (x .subject)
-  unfolding refusalOn
-  visit-placed v marks sizes fit d f n p = rw (n, d, f) at p
+-- from the tests of one place to what is promised there
+module _ {s next : Subject} {lines : List VisitLine} (refusal n : ℕ) (a : AddAnswer) (x : PlaceResult) (nq : n ≡ addNumber a) (aq : addNumber a ≡ refusal) where
+  stopped : (n ≡ 0 → ⊥) → (x .added .answer ≡ a) × (x .added .subject ≡ s) × (x .visit ≡ J.Absent) → Behind s next lines refusal x
+  stopped z q = behind-refused refusal a (n - 1) (sym nq ∙ more) (sym aq ∙ sym nq ∙ more) q
+    where
+      more : n ≡ suc (n - 1)
+      more = omega arith
 
-  module _ (date : Date) (d : day ≡ heldDay (s .randomisation) date)
-      (p : Behind s next (refusalBy (isRecorded (dayValue (s .death))) (ltb (day .0) (s .latest .0)) false) (x .answer) (x .subject)) where
-    pub therapy-placed : next ≡ therapyAdded s day → PlacesEntry s (E.Therapy date) [] [] (x .answer) (x .subject)
+  went-on : n ≡ 0 → Advanced next lines x → Behind s next lines refusal x
+  went-on z w = behind-done refusal (sym aq ∙ sym nq ∙ z) w
+
+module _ (s : Subject) (day : StudyDay) (a : AddAnswer) (n : ℕ) (x : PlaceResult) (nq : n ≡ addNumber a) where
+  abbrev Stays : Type 0
+  Stays = (x .added .answer ≡ a) × (x .added .subject ≡ s) × (x .visit ≡ J.Absent)
+
+  module _ (v : VisitEntry) (marks : List Bool) (sizes : List ℕ) (fit : Bool) (fq : fit ≡ fitsBy (s .baseline .count) (s .nontarget) (v .status) marks)
+      (aq : addNumber a ≡ refusalBy (isRecorded (dayValue (s .death))) (leb (day .0) (s .latest .0)) (not fit)) where
+    refusal-of-visit : addNumber a ≡ refusalOn s day (E.Visit v) marks
     unfolding refusalOn
-    therapy-placed n = rw (n, d) at p
+    refusal-of-visit = rw fq at aq
 
-    pub death-placed : next ≡ deathAdded s day → PlacesEntry s (E.Death date) [] [] (x .answer) (x .subject)
+    pub visit-refused : (n ≡ 0 → ⊥) → Stays → PlacesEntry s day (E.Visit v) marks sizes x
+    visit-refused z q = stopped (refusalOn s day (E.Visit v) marks) n a x nq refusal-of-visit z q
+
+    pub visit-placed : n ≡ 0 → Advanced (visitAdded s day v marks sizes) (lineOn s day v marks sizes ∷ []) x → PlacesEntry s day (E.Visit v) marks sizes x
+    visit-placed z w = went-on (refusalOn s day (E.Visit v) marks) n a x nq refusal-of-visit z w
+
+  module _ (date : Date) (aq : addNumber a ≡ refusalBy (isRecorded (dayValue (s .death))) (ltb (day .0) (s .latest .0)) false) where
+    refusal-of-therapy : addNumber a ≡ refusalOn s day (E.Therapy date) []
     unfolding refusalOn
-    death-placed n = rw (n, d) at p
+    refusal-of-therapy = aq
+
+    refusal-of-death : addNumber a ≡ refusalOn s day (E.Death date) []
+    unfolding refusalOn
+    refusal-of-death = aq
+
+    module _ (z : n ≡ 0 → ⊥) (q : Stays) where
+      pub therapy-refused : PlacesEntry s day (E.Therapy date) [] [] x
+      therapy-refused = stopped (refusalOn s day (E.Therapy date) []) n a x nq refusal-of-therapy z q
+
+      pub death-refused : PlacesEntry s day (E.Death date) [] [] x
+      death-refused = stopped (refusalOn s day (E.Death date) []) n a x nq refusal-of-death z q
+
+    module _ (z : n ≡ 0) (next : Subject) (w : Advanced next [] x) where
+      pub therapy-placed : next ≡ therapyAdded s day → PlacesEntry s day (E.Therapy date) [] [] x
+      therapy-placed e = went-on (refusalOn s day (E.Therapy date) []) n a x nq refusal-of-therapy z (rw e at w)
+
+      pub death-placed : next ≡ deathAdded s day → PlacesEntry s day (E.Death date) [] [] x
+      death-placed e = went-on (refusalOn s day (E.Death date) []) n a x nq refusal-of-death z (rw e at w)
 
 -- by the record's kind
-module _ (s : Subject) (e : Entry) (marks : List Bool) (sizes : List ℕ) (x : AddResult) where
-  pub second-baseline : (b : BaselineEntry) → e ≡ E.Baseline b → (x .answer ≡ A.SecondBaseline) × (x .subject ≡ s) →
-      PlacesEntry s e marks sizes (x .answer) (x .subject)
+module _ (s : Subject) (day : StudyDay) (e : Entry) (marks : List Bool) (sizes : List ℕ) (x : PlaceResult) where
+  pub second-baseline : (b : BaselineEntry) → e ≡ E.Baseline b → (x .added .answer ≡ A.SecondBaseline) × (x .added .subject ≡ s) × (x .visit ≡ J.Absent) →
+      PlacesEntry s day e marks sizes x
   unfolding refusalOn
   second-baseline b k q = behind-refused _ A.SecondBaseline 7 refl (rw k) q
 
-  pub of-visit : (v : VisitEntry) → e ≡ E.Visit v → PlacesEntry s (E.Visit v) marks sizes (x .answer) (x .subject) →
-      PlacesEntry s e marks sizes (x .answer) (x .subject)
+  pub of-visit : (v : VisitEntry) → e ≡ E.Visit v → PlacesEntry s day (E.Visit v) marks sizes x → PlacesEntry s day e marks sizes x
   of-visit v q p = rw q p
 
-  pub of-therapy : (d : Date) → e ≡ E.Therapy d → PlacesEntry s (E.Therapy d) [] [] (x .answer) (x .subject) →
-      PlacesEntry s e marks sizes (x .answer) (x .subject)
+  pub of-therapy : (d : Date) → e ≡ E.Therapy d → PlacesEntry s day (E.Therapy d) [] [] x → PlacesEntry s day e marks sizes x
   unfolding refusalOn
   of-therapy d q p = rw q p
 
-  pub of-death : (d : Date) → e ≡ E.Death d → PlacesEntry s (E.Death d) [] [] (x .answer) (x .subject) →
-      PlacesEntry s e marks sizes (x .answer) (x .subject)
+  pub of-death : (d : Date) → e ≡ E.Death d → PlacesEntry s day (E.Death d) [] [] x → PlacesEntry s day e marks sizes x
   unfolding refusalOn
   of-death d q p = rw q p

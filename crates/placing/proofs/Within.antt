@@ -10,12 +10,13 @@ use borrow.Author.Tests.{leb-false, ltb-false}
 use Rattle.laws.specs.Choice.{both, pick}
 use Rattle.laws.proofs.Tests.{both-true}
 use Rattle.dates.specs.declared.Date.{Date}
+use Rattle.dates.specs.declared.StudyDay.{StudyDay}
 use Rattle.dates.specs.Calendar.{lastDayNumber, dateExists, dayNumber}
 use Rattle.dates.specs.Answers.{counted, refused, studyDayOf}
 use Rattle.dates.proofs.Calendar.{calendar-laws}
 use Rattle.records.specs.declared.Entry.{Entry}
 use Rattle.records.specs.declared.Entry.the-variants as E
-use Rattle.records.specs.Form.{kindNumber}
+use Rattle.records.specs.Form.{dateOf, kindNumber}
 use Rattle.criteria.specs.Sums.{measuredSum, allMeasured}
 use Rattle.criteria.specs.Nadir.{afterVisit}
 use Rattle.criteria.specs.declared.Earlier.{Earlier}
@@ -49,9 +50,9 @@ in-time false true early misfit e = absurd (let w : ⊥ = omega arith in w)
 in-time false false true misfit e = absurd (let w : ⊥ = omega arith in w)
 in-time false false false misfit e = refl
 
-not-early : (s : Subject) (e : Entry) (marks : List Bool) → refusalOn s e marks ≡ 0 → earlyOn s e ≡ false
+not-early : (s : Subject) (day : StudyDay) (e : Entry) (marks : List Bool) → refusalOn s day e marks ≡ 0 → earlyOn s day e ≡ false
 unfolding refusalOn
-not-early s e marks r = in-time (eqb (kindNumber e) 1) (isRecorded (dayValue (s .death))) (earlyOn s e) (misfitOn s e marks) r
+not-early s day e marks r = in-time (eqb (kindNumber e) 1) (isRecorded (dayValue (s .death))) (earlyOn s day e) (misfitOn s e marks) r
 
 nadir-least : (count : ℕ) (earlier : Earlier) (measured : List Bool) (sizes : List ℕ) →
     afterVisit count earlier measured sizes .nadir ≤ earlier .nadir
@@ -62,13 +63,13 @@ nadir-least count earlier measured sizes = go (allMeasured count measured)
     go true = omega arith
     go false = omega arith
 
-pub adding-within : (s : Subject) (e : Entry) (marks : List Bool) (sizes : List ℕ) → SubjectWithin s → refusalOn s e marks ≡ 0 →
-    SubjectWithin (entryAdded s e marks sizes)
+pub adding-within : (s : Subject) (e : Entry) (marks : List Bool) (sizes : List ℕ) → SubjectWithin s →
+    refusalOn s (heldDay (s .randomisation) (dateOf e)) e marks ≡ 0 → SubjectWithin (entryAdded s (heldDay (s .randomisation) (dateOf e)) e marks sizes)
 unfolding visitAdded therapyAdded deathAdded
 adding-within s (E.Baseline b) marks sizes w r = w
 adding-within s (E.Visit v) marks sizes w r =
     let most = study-day-most (s .randomisation) (v .date) in
-    let later = leb-false (studyDay (s .randomisation) (v .date)) (s .latest .0) (not-early s (E.Visit v) marks r) in
+    let later = leb-false (studyDay (s .randomisation) (v .date)) (s .latest .0) (not-early s (heldDay (s .randomisation) (v .date)) (E.Visit v) marks r) in
     let from = w .latest .0 in
     let day : Within (studyDay (s .randomisation) (v .date)) = (omega arith, most) in
     let held = heldDay (s .randomisation) (v .date) in
@@ -91,7 +92,7 @@ adding-within s (E.Visit v) marks sizes w r =
     counted-or-not false k = k
 adding-within s (E.Therapy d) marks sizes w r =
     let most = study-day-most (s .randomisation) d in
-    let later = ltb-false (studyDay (s .randomisation) d) (s .latest .0) (not-early s (E.Therapy d) marks r) in
+    let later = ltb-false (studyDay (s .randomisation) d) (s .latest .0) (not-early s (heldDay (s .randomisation) d) (E.Therapy d) marks r) in
     let from = w .latest .0 in
     record {
       randomisation = w .randomisation;
@@ -105,7 +106,7 @@ adding-within s (E.Therapy d) marks sizes w r =
     }
 adding-within s (E.Death d) marks sizes w r =
     let most = study-day-most (s .randomisation) d in
-    let later = ltb-false (studyDay (s .randomisation) d) (s .latest .0) (not-early s (E.Death d) marks r) in
+    let later = ltb-false (studyDay (s .randomisation) d) (s .latest .0) (not-early s (heldDay (s .randomisation) d) (E.Death d) marks r) in
     let from = w .latest .0 in
     record {
       randomisation = w .randomisation;

@@ -74,9 +74,9 @@ deathAdded s day =
       counted = s .counted;
     }
 
--- the subject after a record; no baseline comes to be added
-abbrev pub entryAdded : Subject → Entry → List Bool → List ℕ → Subject
-entryAdded s (E.Baseline b) marks sizes = s
-entryAdded s (E.Visit v) marks sizes = visitAdded s (heldDay (s .randomisation) (v .date)) v marks sizes
-entryAdded s (E.Therapy d) marks sizes = therapyAdded s (heldDay (s .randomisation) d)
-entryAdded s (E.Death d) marks sizes = deathAdded s (heldDay (s .randomisation) d)
+-- the subject after a record on its study day; no baseline comes to be added
+abbrev pub entryAdded : Subject → StudyDay → Entry → List Bool → List ℕ → Subject
+entryAdded s day (E.Baseline b) marks sizes = s
+entryAdded s day (E.Visit v) marks sizes = visitAdded s day v marks sizes
+entryAdded s day (E.Therapy d) marks sizes = therapyAdded s day
+entryAdded s day (E.Death d) marks sizes = deathAdded s day

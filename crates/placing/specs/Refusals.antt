@@ -3,20 +3,23 @@
 use Prim.Native.Nat.{ℕ}
 use mathlib.Core.Path.{_≡_}
 use mathlib.Core.Bool.{Bool, false, not}
-use mathlib.Core.List.{List}
+use mathlib.Core.List.{List, []}
 use lib.Dec.{leb, ltb, eqb}
 use Rattle.laws.specs.Choice.{pick}
+use Rattle.dates.specs.declared.StudyDay.{StudyDay}
 use Rattle.records.specs.declared.Entry.{Entry}
 use Rattle.records.specs.declared.Entry.the-variants as E
 use Rattle.records.specs.declared.Record.{Record}
 use Rattle.records.specs.Form.{kindNumber}
 use Rattle.endpoints.specs.Values.{isRecorded, dayValue}
-use Rattle.endpoints.specs.StudyRecords.{studyDay}
 use Rattle.endpoints.specs.Lawful.{fitsBy}
+use Rattle.endpoints.specs.Lines.{VisitLine}
 use Rattle.held.specs.declared.Subject.{Subject}
 use Rattle.placing.specs.declared.AddAnswer.{AddAnswer}
 use Rattle.placing.specs.declared.AddAnswer.the-variants as A
+use Rattle.placing.specs.declared.PlaceResult.{PlaceResult}
 use Rattle.placing.specs.Added.{entryAdded}
+use Rattle.placing.specs.Lines.{visitValues, linesOn}
 
 -- the number of each case in document 01; 0 where no refusal meets
 abbrev pub addNumber : AddAnswer → ℕ
@@ -31,11 +34,11 @@ addNumber A.Misfit = 11
 addNumber A.OutOfRange = 12
 
 -- each visit is later than the latest day so far, each therapy or death on or after it
-abbrev pub earlyOn : Subject → Entry → Bool
-earlyOn s (E.Baseline b) = false
-earlyOn s (E.Visit v) = leb (studyDay (s .randomisation) (v .date)) (s .latest .0)
-earlyOn s (E.Therapy d) = ltb (studyDay (s .randomisation) d) (s .latest .0)
-earlyOn s (E.Death d) = ltb (studyDay (s .randomisation) d) (s .latest .0)
+abbrev pub earlyOn : Subject → StudyDay → Entry → Bool
+earlyOn s day (E.Baseline b) = false
+earlyOn s day (E.Visit v) = leb (day .0) (s .latest .0)
+earlyOn s day (E.Therapy d) = ltb (day .0) (s .latest .0)
+earlyOn s day (E.Death d) = ltb (day .0) (s .latest .0)
 
 abbrev pub misfitOn : Subject → Entry → List Bool → Bool
 misfitOn s (E.Baseline b) measured = false
@@ -48,17 +51,18 @@ abbrev pub refusalBy : Bool → Bool → Bool → ℕ
 refusalBy dead early misfit = pick dead 9 (pick early 10 (pick misfit 11 0))
 
 -- 8 a baseline, before these
-unfoldable pub refusalOn : Subject → Entry → List Bool → ℕ
-refusalOn s e marks = pick (eqb (kindNumber e) 1) 8 (refusalBy (isRecorded (dayValue (s .death))) (earlyOn s e) (misfitOn s e marks))
+unfoldable pub refusalOn : Subject → StudyDay → Entry → List Bool → ℕ
+refusalOn s day e marks = pick (eqb (kindNumber e) 1) 8 (refusalBy (isRecorded (dayValue (s .death))) (earlyOn s day e) (misfitOn s e marks))
 
--- what placing promises: a refusal's number or 0, and the next subject, or the same one beside a refusal
-pub record Behind (s next : Subject) (refusal : ℕ) (a : AddAnswer) (t : Subject) : Type 0 where
-  pub answer : addNumber a ≡ refusal
-  pub left : t ≡ pick (eqb refusal 0) next s
+-- what placing promises: a refusal's number or 0, the next subject, or the same one beside a refusal, and the lines, or none
+pub record Behind (s next : Subject) (lines : List VisitLine) (refusal : ℕ) (x : PlaceResult) : Type 0 where
+  pub answer : addNumber (x .added .answer) ≡ refusal
+  pub left : x .added .subject ≡ pick (eqb refusal 0) next s
+  pub shown : visitValues (x .visit) ≡ pick (eqb refusal 0) lines []
 
--- of a record that none of its own refusals meets: the first of 8 to 11
-abbrev pub PlacesEntry : Subject → Entry → List Bool → List ℕ → AddAnswer → Subject → Type 0
-PlacesEntry s e marks sizes a t = Behind s (entryAdded s e marks sizes) (refusalOn s e marks) a t
+-- of a record that none of its own refusals meets, on its study day: the first of 8 to 11
+abbrev pub PlacesEntry : Subject → StudyDay → Entry → List Bool → List ℕ → PlaceResult → Type 0
+PlacesEntry s day e marks sizes x = Behind s (entryAdded s day e marks sizes) (linesOn s day e marks sizes) (refusalOn s day e marks) x
 
-abbrev pub Places : Subject → Record → AddAnswer → Subject → Type 0
-Places s r a t = PlacesEntry s (r .entry) (r .marks) (r .sizes) a t
+abbrev pub Places : Subject → StudyDay → Record → PlaceResult → Type 0
+Places s day r x = PlacesEntry s day (r .entry) (r .marks) (r .sizes) x

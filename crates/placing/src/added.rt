@@ -1,4 +1,9 @@
-// The subject after a record.
+// The subject after a record, and the line of a visit.
+use super::AddAnswer;
+use super::AddResult;
+use super::JudgedVisit;
+use super::MaybeVisit;
+use super::PlaceResult;
 use criteria::Overall;
 use dates::StudyDay;
 use endpoints::MaybeDay;
@@ -6,13 +11,18 @@ use held::CountingVisits;
 use held::Subject;
 use held::counted_after;
 use held::event_after;
+use records::Status;
 use records::VisitEntry;
+use response::VisitAnswer;
 use results::is_recorded;
 ghost use mathlib.Core.Path.{_≡_};
+ghost use mathlib.Core.List.{[], _∷_};
 ghost use Rattle.laws.specs.Choice.{pick};
 ghost use Rattle.criteria.specs.Words.{overallWord};
+ghost use Rattle.response.specs.Judging.{JudgesVisit};
 ghost use Rattle.held.specs.Visits.{countedAfter};
 ghost use Rattle.placing.specs.Added.{visitAdded, therapyAdded, deathAdded};
+ghost use Rattle.placing.specs.Lines.{judgedValues, lineJudged, lineOn, Advanced};
 
 fn counted_unless(closed: bool, c: CountingVisits, day: StudyDay, answer: Overall) -> CountingVisits
     ensures { λ r. ⌜ r ≡ pick closed c (countedAfter c day (overallWord answer)) ⌝ }
@@ -23,23 +33,23 @@ fn counted_unless(closed: bool, c: CountingVisits, day: StudyDay, answer: Overal
     counted_after(c, day, answer)
 }
 
-pub(crate) fn with_visit(
+fn with_visit(
     s: Subject,
     day: StudyDay,
     v: VisitEntry,
     measured: [bool; 5],
     sizes: [u16; 5],
+    judged: VisitAnswer,
 ) -> Subject
+    requires { ⌜ JudgesVisit (s .baseline) (s .earlier) v measured sizes judged ⌝ }
     ensures { λ r. ⌜ r ≡ visitAdded s day v measured sizes ⌝ }
 {
     let randomisation = s.randomisation;
     let baseline = s.baseline;
-    let earlier = s.earlier;
     let death = s.death;
     let before = s.event;
     let progression = before.progression;
     let counting = s.counted;
-    let judged = response::judge_visit(baseline, earlier, v, measured, sizes);
     let answer = judged.overall;
     let after = judged.after;
     let closed = s.therapy | is_recorded(progression);
@@ -55,6 +65,46 @@ pub(crate) fn with_visit(
         death: death,
         event: event,
         counted: counted,
+    }
+}
+
+fn line_of(day: StudyDay, status: Status, judged: VisitAnswer) -> JudgedVisit
+    ensures { λ r. ⌜ judgedValues r ≡ lineJudged day status judged ⌝ }
+{
+    let target = judged.target;
+    let overall = judged.overall;
+    let change = judged.change;
+    JudgedVisit {
+        day: day,
+        target: target,
+        nontarget: status,
+        overall: overall,
+        change: change,
+    }
+}
+
+// The subject after a visit, and its line.
+pub(crate) fn visited(
+    s: Subject,
+    day: StudyDay,
+    v: VisitEntry,
+    measured: [bool; 5],
+    sizes: [u16; 5],
+) -> PlaceResult
+    ensures { λ x. ⌜ Advanced (visitAdded s day v measured sizes) (lineOn s day v measured sizes ∷ []) x ⌝ }
+{
+    let status = v.status;
+    let baseline = s.baseline;
+    let earlier = s.earlier;
+    let judged = response::judge_visit(baseline, earlier, v, measured, sizes);
+    let next = with_visit(s, day, v, measured, sizes, judged);
+    let line = line_of(day, status, judged);
+    PlaceResult {
+        added: AddResult {
+            subject: next,
+            answer: AddAnswer::Done,
+        },
+        visit: MaybeVisit::Judged(line),
     }
 }
 

@@ -1,9 +1,12 @@
 // Refusals 8 to 11.
 use super::AddAnswer;
 use super::AddResult;
+use super::MaybeVisit;
+use super::PlaceResult;
+use super::add_number;
+use super::added::visited;
 use super::added::with_death;
 use super::added::with_therapy;
-use super::added::with_visit;
 use super::fitting::fits;
 use dates::Date;
 use dates::StudyDay;
@@ -14,13 +17,18 @@ use records::Record;
 use records::VisitEntry;
 use results::is_recorded;
 ghost use mathlib.Core.Path.{_≡_};
+ghost use mathlib.Core.Bool.{false};
 ghost use mathlib.Core.List.{[]};
+ghost use lib.Dec.{ltb};
 ghost use Rattle.records.specs.declared.Entry.the-variants as E;
 ghost use Rattle.endpoints.specs.Values.{isRecorded, dayValue};
 ghost use Rattle.placing.specs.Added.{heldDay};
-ghost use Rattle.placing.specs.Refusals.{refusalBy, Behind, PlacesEntry, Places};
+ghost use Rattle.placing.specs.declared.MaybeVisit.the-variants as J;
+ghost use Rattle.placing.specs.Lines.{Advanced};
+ghost use Rattle.placing.specs.Refusals.{addNumber, refusalBy, PlacesEntry, Places};
 
-fn held_day(randomisation: Date, date: Date) -> StudyDay
+// The study day of a date; 0, which is no study day, where there is none.
+pub fn held_day(randomisation: Date, date: Date) -> StudyDay
     ensures { λ r. ⌜ r ≡ heldDay randomisation date ⌝ }
 {
     match dates::study_day(date, randomisation) {
@@ -30,72 +38,106 @@ fn held_day(randomisation: Date, date: Date) -> StudyDay
     }
 }
 
-fn refused(s: Subject, answer: AddAnswer) -> AddResult
-    ensures { λ x. ⌜ (x .answer ≡ answer) × (x .subject ≡ s) ⌝ }
+fn refused(s: Subject, answer: AddAnswer) -> PlaceResult
+    ensures { λ x. ⌜ (x .added .answer ≡ answer) × (x .added .subject ≡ s) × (x .visit ≡ J.Absent) ⌝ }
 {
-    AddResult {
-        subject: s,
-        answer: answer,
+    PlaceResult {
+        added: AddResult {
+            subject: s,
+            answer: answer,
+        },
+        visit: MaybeVisit::Absent,
     }
 }
 
-// 9 to 11, or the next subject.
-fn place_behind(s: Subject, early: bool, misfit: bool, next: Subject) -> AddResult
-    ensures { λ x. ⌜ Behind s next (refusalBy (isRecorded (dayValue (s .death))) early misfit) (x .answer) (x .subject) ⌝ }
+// A record that prints no line.
+fn advanced(next: Subject) -> PlaceResult
+    ensures { λ x. ⌜ Advanced next [] x ⌝ }
+{
+    PlaceResult {
+        added: AddResult {
+            subject: next,
+            answer: AddAnswer::Done,
+        },
+        visit: MaybeVisit::Absent,
+    }
+}
+
+// 9 to 11.
+fn refusal_behind(s: Subject, early: bool, misfit: bool) -> AddAnswer
+    ensures { λ a. ⌜ addNumber a ≡ refusalBy (isRecorded (dayValue (s .death))) early misfit ⌝ }
 {
     let death = s.death;
     if is_recorded(death) {
-        return refused(s, AddAnswer::AfterDeath);
+        return AddAnswer::AfterDeath;
     }
     if early {
-        return refused(s, AddAnswer::TooEarly);
+        return AddAnswer::TooEarly;
     }
     if misfit {
-        return refused(s, AddAnswer::Misfit);
+        return AddAnswer::Misfit;
     }
-    AddResult {
-        subject: next,
-        answer: AddAnswer::Done,
-    }
+    AddAnswer::Done
 }
 
-fn place_visit(s: Subject, v: VisitEntry, measured: [bool; 5], sizes: [u16; 5]) -> AddResult
-    ensures { λ x. ⌜ PlacesEntry s (E.Visit v) measured sizes (x .answer) (x .subject) ⌝ }
+fn place_visit(
+    s: Subject,
+    day: StudyDay,
+    v: VisitEntry,
+    measured: [bool; 5],
+    sizes: [u16; 5],
+) -> PlaceResult
+    ensures { λ x. ⌜ PlacesEntry s day (E.Visit v) measured sizes x ⌝ }
 {
     let status = v.status;
-    let day = held_day(s.randomisation, v.date);
     let fit = fits(s.baseline.count, s.nontarget, status, measured);
-    let visited = with_visit(s, day, v, measured, sizes);
-    place_behind(s, day.0 <= s.latest.0, !fit, visited)
+    let refusal = refusal_behind(s, day.0 <= s.latest.0, !fit);
+    if add_number(refusal) != 0 {
+        return refused(s, refusal);
+    }
+    visited(s, day, v, measured, sizes)
 }
 
-fn place_therapy(s: Subject, date: Date) -> AddResult
-    ensures { λ x. ⌜ PlacesEntry s (E.Therapy date) [] [] (x .answer) (x .subject) ⌝ }
+// Of a therapy or a death.
+fn refusal_on_or_after(s: Subject, day: StudyDay) -> AddAnswer
+    ensures { λ a. ⌜ addNumber a ≡ refusalBy (isRecorded (dayValue (s .death))) (ltb (day .0) (s .latest .0)) false ⌝ }
 {
-    let day = held_day(s.randomisation, date);
+    refusal_behind(s, day.0 < s.latest.0, false)
+}
+
+fn place_therapy(s: Subject, day: StudyDay, date: Date) -> PlaceResult
+    ensures { λ x. ⌜ PlacesEntry s day (E.Therapy date) [] [] x ⌝ }
+{
+    let refusal = refusal_on_or_after(s, day);
+    if add_number(refusal) != 0 {
+        return refused(s, refusal);
+    }
     let treated = with_therapy(s, day);
-    place_behind(s, day.0 < s.latest.0, false, treated)
+    advanced(treated)
 }
 
-fn place_death(s: Subject, date: Date) -> AddResult
-    ensures { λ x. ⌜ PlacesEntry s (E.Death date) [] [] (x .answer) (x .subject) ⌝ }
+fn place_death(s: Subject, day: StudyDay, date: Date) -> PlaceResult
+    ensures { λ x. ⌜ PlacesEntry s day (E.Death date) [] [] x ⌝ }
 {
-    let day = held_day(s.randomisation, date);
+    let refusal = refusal_on_or_after(s, day);
+    if add_number(refusal) != 0 {
+        return refused(s, refusal);
+    }
     let dead = with_death(s, day);
-    place_behind(s, day.0 < s.latest.0, false, dead)
+    advanced(dead)
 }
 
-// The record's own refusals are judged before. A therapy and a death have nothing beside the date.
-pub fn place(s: Subject, r: Record) -> AddResult
-    ensures { λ x. ⌜ Places s r (x .answer) (x .subject) ⌝ }
+// The record's own refusals are judged before, and the caller found the study day of its date. A therapy and a death have nothing beside the date.
+pub fn place(s: Subject, day: StudyDay, r: Record) -> PlaceResult
+    ensures { λ x. ⌜ Places s day r x ⌝ }
 {
     let entry = r.entry;
     let marks = r.marks;
     let sizes = r.sizes;
     match entry {
         Entry::Baseline(_) => refused(s, AddAnswer::SecondBaseline),
-        Entry::Visit(v) => place_visit(s, v, marks, sizes),
-        Entry::Therapy(date) => place_therapy(s, date),
-        Entry::Death(date) => place_death(s, date),
+        Entry::Visit(v) => place_visit(s, day, v, marks, sizes),
+        Entry::Therapy(date) => place_therapy(s, day, date),
+        Entry::Death(date) => place_death(s, day, date),
     }
 }

@@ -1,7 +1,7 @@
 -- `placing::refusals::place_death` meets its contract.
 -- Assumes nothing.
 use borrow.Author.Needs.{needs}
-use Rattle.placing.proofs.Returns.{death-placed}
+use Rattle.placing.proofs.Returns.{death-refused, death-placed}
 use Rattle.placing.proofs.refusals.place_death.Statement.{statement}
 use Rattle.placing.proofs.refusals.place_death.Tie as tie
 
@@ -10,6 +10,9 @@ place-death-spec =
     tie.close
     (tie.spec
     (λ c κs. search needs)
+    (λ c κs. search needs)
+    (λ c κs. search needs)
+    (λ c. search death-refused)
     (λ c κs. search needs)
     (λ c κs. search needs)
     (λ c. search death-placed))

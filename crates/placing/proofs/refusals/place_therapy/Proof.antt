@@ -1,7 +1,7 @@
 -- `placing::refusals::place_therapy` meets its contract.
 -- Assumes nothing.
 use borrow.Author.Needs.{needs}
-use Rattle.placing.proofs.Returns.{therapy-placed}
+use Rattle.placing.proofs.Returns.{therapy-refused, therapy-placed}
 use Rattle.placing.proofs.refusals.place_therapy.Statement.{statement}
 use Rattle.placing.proofs.refusals.place_therapy.Tie as tie
 
@@ -10,6 +10,9 @@ place-therapy-spec =
     tie.close
     (tie.spec
     (λ c κs. search needs)
+    (λ c κs. search needs)
+    (λ c κs. search needs)
+    (λ c. search therapy-refused)
     (λ c κs. search needs)
     (λ c κs. search needs)
     (λ c. search therapy-placed))

@@ -1,0 +1,42 @@
+-- Document 01, "Change in size, file and listing": what the listing tells of each visit.
+-- Assumes nothing.
+use Prim.Native.Nat.{ℕ}
+use mathlib.Core.List.{List, [], _∷_, _++_}
+use Rattle.criteria.specs.Words.{Word, statusWord}
+use Rattle.criteria.specs.Inputs.{Visit}
+use Rattle.criteria.specs.Change.{Tenths}
+use Rattle.criteria.specs.Visits.{visitTarget, visitOverall, visitChange}
+use Rattle.endpoints.specs.StudyRecords.{Baseline, StudyRecord, baseline, visit, therapy, death, disease}
+use Rattle.endpoints.specs.Lawful.{Past}
+use Rattle.endpoints.specs.Visits.{visitsOf}
+
+-- study day, target, non-target, overall, change
+pub record VisitLine : Type 0 where
+  pub day : ℕ
+  pub target : Word
+  pub nontarget : Word
+  pub overall : Word
+  pub change : Tenths
+
+-- of a visit, after the earlier ones
+unfoldable pub lineOf : Baseline → Past → ℕ → Visit → VisitLine
+lineOf b p d v =
+    record {
+      day = d;
+      target = visitTarget (disease b) (visitsOf p) v;
+      nontarget = statusWord (v .status);
+      overall = visitOverall (disease b) (visitsOf p) v;
+      change = visitChange (disease b) v;
+    }
+
+-- of one record after those before it: therapy and death print no line of their own
+abbrev pub linesOf : Baseline → Past → StudyRecord → List VisitLine
+linesOf b p (baseline x) = []
+linesOf b p (visit d v) = lineOf b p d v ∷ []
+linesOf b p (therapy d) = []
+linesOf b p (death d) = []
+
+-- of the records behind a baseline; the lines stand in the order recorded
+abbrev pub visitLines : Baseline → Past → List VisitLine
+visitLines b [] = []
+visitLines b (r ∷ p) = visitLines b p ++ linesOf b p r

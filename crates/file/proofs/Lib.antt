@@ -1,0 +1,4 @@
+pub mod Returns
+pub mod Follows
+pub mod Loop
+pub mod Singly

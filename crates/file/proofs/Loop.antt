@@ -1,0 +1,106 @@
+-- A turn of the loop over a file's records as a step of the recursion over its parts.
+-- Assumes nothing.
+use mathlib.Core.Path.{_≡_, sym, _∙_, ap}
+use mathlib.Core.Bool.{true, false, not}
+use mathlib.Core.List.{List, [], _∷_, _++_}
+use Prim.Native.Nat.{ℕ, suc, _+_, _-_, _*_, _/_, _%_, _≤_, _<_}
+use native.Mathlib.Numerals.{add-one}
+use native.Mathlib.Omega.{arith}
+use lib.Dec.{eqb}
+use borrow.Author.Tests.{eq-eqb, ne-eqb, eqb-true, eqb-false, ltb-false, not-false}
+use lib.ListN.{length, take, drop}
+use lib.Seq.{drop-drop}
+use Rattle.laws.proofs.Tests.{either-false}
+use Rattle.records.specs.declared.Record.{Record}
+use Rattle.codec.specs.Bytes.{recordLength}
+use Rattle.codec.specs.Reading.{recordOfBytes}
+use Rattle.held.specs.declared.Subject.{Subject}
+use Rattle.file.specs.declared.FileAnswer.{FileAnswer}
+use Rattle.file.specs.declared.TakenRecord.{TakenRecord}
+use Rattle.file.specs.File.{mostBytes, badLength, parts, refusalOfPart, refused, verdictFrom, verdictOf, fileValues, Judges}
+use Rattle.file.specs.Taking.{TakesFirst, Takes, Ends}
+use Rattle.file.proofs.Follows.{Taken, first-taken, later-number, later-taken, ending}
+
+-- what 13 leaves
+pub fair-length : (n : ℕ) → badLength n ≡ false → (1 ≤ n) × (n % 11 ≡ 0) × (n ≤ mostBytes)
+unfolding badLength
+fair-length n e =
+    let some = either-false (eqb n 0) _ e in
+    let rest = either-false (not (eqb (n % recordLength) 0)) _ (some .1) in
+    let h = eqb-false n 0 (some .0) in
+    (omega arith, eqb-true (n % 11) 0 (not-false (eqb (n % 11) 0) (rest .0)), ltb-false mostBytes n (rest .1))
+
+-- the parts from index k on
+abbrev pub from : List ℕ → ℕ → List (List ℕ)
+from l k = parts (length l / 11 - k) (drop (k * 11) l)
+
+module _ (l : List ℕ) (k : ℕ) where
+  abbrev pub partAt : List ℕ
+  partAt = take (k * 11 + 11 - k * 11) (drop (k * 11) l)
+
+  pub one-more : k < length l / 11 → from l k ≡ partAt ∷ from l (k + 1)
+  one-more h =
+      let e : length l / 11 - k ≡ suc (length l / 11 - (k + 1)) = omega arith in
+      let f : k * 11 + 11 ≡ (k + 1) * 11 = omega arith in
+      let g : k * 11 + 11 - k * 11 ≡ 11 = omega arith in
+      rw (e, g)
+      (ap (λ (m : List ℕ). take 11 (drop (k * 11) l) ∷ parts (length l / 11 - (k + 1)) m)
+      (drop-drop 11 (k * 11) l ∙ ap (λ (j : ℕ). drop j l) f))
+
+-- the records before index k are taken, and the verdict of the file is that of the rest behind them
+pub record Standing (l : List ℕ) (s : Subject) (k : ℕ) : Type 0 where
+  pub before : List Record
+  pub taken : Taken before s
+  pub rest : verdictOf l ≡ verdictFrom before k (from l k)
+
+pub bad : (l : List ℕ) (a : FileAnswer) → badLength (length l) ≡ true → fileValues a ≡ refused 13 0 → Judges l a
+unfolding verdictOf
+bad l a h e = record { answer = e ∙ rw h }
+
+module _ (l : List ℕ) (fair : badLength (length l) ≡ false) where
+  all-parts : verdictOf l ≡ verdictFrom [] 0 (take 11 l ∷ from l 1)
+  unfolding verdictOf
+  all-parts =
+      let h = fair-length (length l) fair in
+      let e : length l / 11 ≡ suc (length l / 11 - 1) = omega arith in
+      rw fair (ap (λ (n : ℕ). verdictFrom [] 0 (parts n l)) e)
+
+  pub first-refused : (x : TakenRecord) (a : FileAnswer) → TakesFirst (take 11 l) x → (x .number ≡ 0 → ⊥) → fileValues a ≡ refused (x .number) 0 → Judges l a
+  first-refused x a w z e =
+      let met : eqb (refusalOfPart [] (take 11 l)) 0 ≡ false = ne-eqb _ 0 (λ q. z (w .number ∙ q)) in
+      record { answer = e ∙ ap (λ (n : ℕ). refused n 0) (w .number) ∙ sym (all-parts ∙ rw met) }
+
+  pub first-standing : (x : TakenRecord) → TakesFirst (take 11 l) x → x .number ≡ 0 → Standing l (x .subject) 1
+  first-standing x w z =
+      let none : eqb (refusalOfPart [] (take 11 l)) 0 ≡ true = eq-eqb _ 0 (sym (w .number) ∙ z) in
+      record { before = recordOfBytes (take 11 l) ∷ []; taken = first-taken (take 11 l) x w z; rest = all-parts ∙ rw none }
+
+module _ (l : List ℕ) (s : Subject) (k : ℕ) (w : Standing l s k) where
+  module _ (h : k < length l / 11) (x : TakenRecord) (v : Takes s (partAt l k) x) where
+    next-part : verdictOf l ≡ verdictFrom (w .before) k (partAt l k ∷ from l (k + 1))
+    next-part = w .rest ∙ ap (verdictFrom (w .before) k) (one-more l k h)
+
+    number : x .number ≡ refusalOfPart (w .before) (partAt l k)
+    number = later-number (w .taken) (partAt l k) x v
+
+    pub turn-refused : (a : FileAnswer) → (x .number ≡ 0 → ⊥) → fileValues a ≡ refused (x .number) k → Judges l a
+    turn-refused a z e =
+        let met : eqb (refusalOfPart (w .before) (partAt l k)) 0 ≡ false = ne-eqb _ 0 (λ q. z (number ∙ q)) in
+        record { answer = e ∙ ap (λ (n : ℕ). refused n k) number ∙ sym (next-part ∙ rw met) }
+
+    pub turn : x .number ≡ 0 → Standing l (x .subject) (k + 1)
+    turn z =
+        let none : eqb (refusalOfPart (w .before) (partAt l k)) 0 ≡ true = eq-eqb _ 0 (sym number ∙ z) in
+        record {
+          before = w .before ++ (recordOfBytes (partAt l k) ∷ []);
+          taken = later-taken (w .taken) (partAt l k) x v z;
+          rest =
+              next-part ∙ rw none
+              (ap (λ (j : ℕ). verdictFrom (w .before ++ (recordOfBytes (partAt l k) ∷ [])) j (from l (k + 1))) (sym (add-one k)));
+        }
+
+  pub ended : length l / 11 ≤ k → (a : FileAnswer) → Ends s (k - 1) a → Judges l a
+  ended h a v =
+      let z : length l / 11 - k ≡ 0 = omega arith in
+      let none : from l k ≡ [] = rw z in
+      record { answer = ending (w .taken) (k - 1) a v ∙ sym (w .rest ∙ ap (verdictFrom (w .before) k) none) }

@@ -1,0 +1,199 @@
+-- A file is judged as its records are one by one, by induction on the parts.
+-- Assumes nothing.
+use mathlib.Core.Path.{_≡_, refl, sym, _∙_, ap, subst}
+use mathlib.Core.Bool.{Bool, true, false}
+use mathlib.Core.List.{List, [], _∷_, _++_}
+use Prim.Native.Nat.{ℕ, zero, suc, _+_, _-_, _/_}
+use native.Mathlib.Omega.{arith}
+use lib.Dec.{eqb}
+use borrow.Author.Tests.{eq-eqb, eqb-true}
+use lib.ListN.{length, drop}
+use Rattle.laws.specs.Choice.{pick}
+use Rattle.laws.proofs.Tests.{never as not-both}
+use Rattle.records.specs.declared.Record.{Record}
+use Rattle.codec.specs.declared.ReadResult.{ReadResult}
+use Rattle.codec.specs.Bytes.{recordLength}
+use Rattle.codec.specs.Reading.{recordOfBytes, Reads}
+use Rattle.endpoints.specs.Values.{Outcome, dayValue}
+use Rattle.endpoints.specs.StudyRecords.{onStudyDays}
+use Rattle.endpoints.specs.Adding.{notBaseline, refusalOfOpening, refusalOfAdding}
+use Rattle.endpoints.proofs.Calls.{none-of-both}
+use Rattle.held.specs.declared.Subject.{Subject}
+use Rattle.opening.specs.declared.OpenAnswer.{OpenAnswer}
+use Rattle.opening.specs.Opening.{openNumber, Opened}
+use Rattle.placing.specs.declared.AddAnswer.{AddAnswer}
+use Rattle.placing.specs.Refusals.{addNumber}
+use Rattle.outcome.specs.declared.OutcomeAnswer.{OutcomeAnswer}
+use Rattle.outcome.specs.Promises.{Added, Reading, refused as unread, outcome, readingValues, pfsHeld, durationHeld, Told}
+use Rattle.outcome.proofs.Demand.{first, number, grown}
+use Rattle.file.specs.File.{badLength, parts, partsOf, afterReading, refusalOfPart, Verdict, refused, accepted, startsLate, verdictOn, verdictFrom, verdictOf}
+use Rattle.file.specs.Singly.{numberOf, Adds, none, adds, Singly, opens, Stop, never, at, firstRefusal, toldAs, AsSingly}
+use Rattle.file.proofs.Follows.{Taken, none-read, opened-taken, told-verdict}
+
+-- reading's number, then the other, is the part's refusal
+read-then : (part : List ℕ) (x : ReadResult) (n m : ℕ) → Reads part x → n ≡ m → numberOf x n ≡ afterReading part m
+read-then part x n m w e = λ i. pick (eqb (w .answer i) 0) (e i) (w .answer i)
+
+module _ {rs : List Record} {s t : Subject} {part : List ℕ} {x : ReadResult} {a : AddAnswer} (h : Taken rs s) (w : Reads part x) (v : Added s (x .found) a t) where
+  abbrev r : Record
+  r = recordOfBytes part
+
+  added-found : Added s r a t
+  added-found = subst (λ (y : Record). Added s y a t) (w .found) v
+
+  adding : addNumber a ≡ refusalOfAdding rs r
+  adding = number (h .entry) (h .marks) (h .sizes) (h .later) r (h .held) added-found ∙ ap (λ (l : List Record). refusalOfAdding l r) (sym (h .opens))
+
+  adds-number : numberOf x (addNumber a) ≡ refusalOfPart rs part
+  adds-number = read-then part x (addNumber a) (refusalOfAdding rs r) w adding ∙ rw (h .opens)
+
+  adds-taken : numberOf x (addNumber a) ≡ 0 → Taken (rs ++ (r ∷ [])) t
+  adds-taken z =
+      let none-met : afterReading part (refusalOfAdding rs r) ≡ 0 = sym (read-then part x (addNumber a) (refusalOfAdding rs r) w adding) ∙ z in
+      let accepts : eqb (refusalOfAdding (first (h .entry) (h .marks) (h .sizes) ∷ h .later) r) 0 ≡ true =
+      eq-eqb _ 0 (ap (λ (l : List Record). refusalOfAdding l r) (sym (h .opens)) ∙ none-read part (refusalOfAdding rs r) none-met .1) in
+      record {
+        entry = h .entry;
+        marks = h .marks;
+        sizes = h .sizes;
+        later = h .later ++ (r ∷ []);
+        opens = ap (λ (l : List Record). l ++ (r ∷ [])) (h .opens);
+        held = grown (h .entry) (h .marks) (h .sizes) (h .later) r (h .held) added-found accepts;
+      }
+
+-- behind the last record, where nothing stopped it
+record Ended (k : ℕ) (ps : List (List ℕ)) (v : Verdict) (t : Subject) : Type 0 where
+  all : List Record
+  taken : Taken all t
+  verdict : v ≡ verdictOn (onStudyDays all) (k + length ps - 1)
+
+abbrev EndedBy : Stop → ℕ → List (List ℕ) → Verdict → Subject → Type 0
+EndedBy never k ps v t = Ended k ps v t
+EndedBy (at n j) k ps v t = v ≡ refused n j
+
+later-parts : (rs : List Record) (k : ℕ) {s t : Subject} {ps : List (List ℕ)} {ns : List ℕ} → Taken rs s → Adds s ps ns t →
+    EndedBy (firstRefusal k ns) k ps (verdictFrom rs k ps) t
+later-parts rs k h none = record { all = rs; taken = h; verdict = ap (verdictOn (onStudyDays rs)) (let e : k - 1 ≡ k + 0 - 1 = omega arith in e) }
+later-parts rs k {t = u} h (adds {t = t} {part = part} {x = x} {a = a} {ps = ps} {ns = ns} w v c) =
+    go (eqb (numberOf x (addNumber a)) 0) refl (λ m. later-parts (rs ++ (recordOfBytes part ∷ [])) (suc k) m c)
+  where
+    number-here : numberOf x (addNumber a) ≡ refusalOfPart rs part
+    number-here = adds-number h w v
+
+    one-on : (stop : Stop) → EndedBy stop (suc k) ps (verdictFrom (rs ++ (recordOfBytes part ∷ [])) (suc k) ps) u →
+        EndedBy stop k (part ∷ ps) (verdictFrom (rs ++ (recordOfBytes part ∷ [])) (suc k) ps) u
+    one-on never e =
+        let same : suc k + length ps - 1 ≡ k + length (part ∷ ps) - 1 = omega arith in
+        record { all = e .all; taken = e .taken; verdict = e .verdict ∙ ap (verdictOn (onStudyDays (e .all))) same }
+    one-on (at n j) e = e
+
+    go : (b : Bool) → eqb (numberOf x (addNumber a)) 0 ≡ b →
+        (Taken (rs ++ (recordOfBytes part ∷ [])) t → EndedBy (firstRefusal (suc k) ns) (suc k) ps (verdictFrom (rs ++ (recordOfBytes part ∷ [])) (suc k) ps) u) →
+        EndedBy (pick b (firstRefusal (suc k) ns) (at (numberOf x (addNumber a)) k)) k (part ∷ ps) (verdictFrom rs k (part ∷ ps)) u
+    go true q more =
+        let z = eqb-true (numberOf x (addNumber a)) 0 q in
+        let passes : eqb (refusalOfPart rs part) 0 ≡ true = eq-eqb _ 0 (sym number-here ∙ z) in
+        rw passes (one-on (firstRefusal (suc k) ns) (more (adds-taken h w v z)))
+    go false q more =
+        let stops : eqb (refusalOfPart rs part) 0 ≡ false = ap (λ (n : ℕ). eqb n 0) (sym number-here) ∙ q in
+        rw stops (ap (λ (n : ℕ). refused n k) (sym number-here))
+
+-- the whole file, by its first part
+module _ {s u : Subject} {part : List ℕ} {x : ReadResult} {a : OpenAnswer} {ps : List (List ℕ)} {ns : List ℕ}
+    (w : Reads part x) (v : Opened (x .found) a s) (c : Adds s ps ns u) where
+  opening : numberOf x (openNumber a) ≡ refusalOfPart [] part
+  opening = read-then part x (openNumber a) (refusalOfOpening (recordOfBytes part)) w (v .answer ∙ ap refusalOfOpening (w .found))
+
+  opened : numberOf x (openNumber a) ≡ 0 → Taken (recordOfBytes part ∷ []) s
+  unfolding refusalOfOpening
+  opened z =
+      let r = recordOfBytes part in
+      let passes = none-read part (refusalOfOpening r) (sym opening ∙ z) .1 in
+      let found : Opened r a s = subst (λ (y : Record). Opened y a s) (w .found) v in
+      opened-taken (r .entry) (r .marks) (r .sizes) found (found .answer ∙ passes) (none-of-both r (notBaseline (r .entry)) .0 passes .1)
+
+  all-parts : EndedBy (firstRefusal 0 (numberOf x (openNumber a) ∷ ns)) 0 (part ∷ ps) (verdictFrom [] 0 (part ∷ ps)) u
+  all-parts = go (eqb (numberOf x (openNumber a)) 0) refl (λ h. later-parts (recordOfBytes part ∷ []) 1 h c)
+    where
+      one-on : (stop : Stop) → EndedBy stop 1 ps (verdictFrom (recordOfBytes part ∷ []) 1 ps) u → EndedBy stop 0 (part ∷ ps) (verdictFrom (recordOfBytes part ∷ []) 1 ps) u
+      one-on never e =
+          let same : 1 + length ps - 1 ≡ 0 + length (part ∷ ps) - 1 = omega arith in
+          record { all = e .all; taken = e .taken; verdict = e .verdict ∙ ap (verdictOn (onStudyDays (e .all))) same }
+      one-on (at n j) e = e
+
+      go : (b : Bool) → eqb (numberOf x (openNumber a)) 0 ≡ b →
+          (Taken (recordOfBytes part ∷ []) s → EndedBy (firstRefusal 1 ns) 1 ps (verdictFrom (recordOfBytes part ∷ []) 1 ps) u) →
+          EndedBy (pick b (firstRefusal 1 ns) (at (numberOf x (openNumber a)) 0)) 0 (part ∷ ps) (verdictFrom [] 0 (part ∷ ps)) u
+      go true q more =
+          let z = eqb-true (numberOf x (openNumber a)) 0 q in
+          let passes : eqb (refusalOfPart [] part) 0 ≡ true = eq-eqb _ 0 (sym opening ∙ z) in
+          rw passes (one-on (firstRefusal 1 ns) (more (opened z)))
+      go false q more =
+          let stops : eqb (refusalOfPart [] part) 0 ≡ false = ap (λ (n : ℕ). eqb n 0) (sym opening) ∙ q in
+          rw stops (ap (λ (n : ℕ). refused n 0) (sym opening))
+
+by-parts : {ps : List (List ℕ)} {ns : List ℕ} {t : Subject} → Singly ps ns t → EndedBy (firstRefusal 0 ns) 0 ps (verdictFrom [] 0 ps) t
+by-parts (opens w v c) = all-parts w v c
+
+length-parts : (n : ℕ) (s : List ℕ) → length (parts n s) ≡ n
+length-parts zero s = refl
+length-parts (suc n) s = ap suc (length-parts n (drop recordLength s))
+
+module _ (s : List ℕ) {ns : List ℕ} {t : Subject} (c : Singly (partsOf s) ns t) where
+  judged : badLength (length s) ≡ false → EndedBy (firstRefusal 0 ns) 0 (partsOf s) (verdictOf s) t
+  unfolding verdictOf
+  judged fair = rw fair (by-parts c)
+
+  refuses : {n k : ℕ} → badLength (length s) ≡ false → firstRefusal 0 ns ≡ at n k → verdictOf s ≡ refused n k
+  refuses fair e = subst (λ (stop : Stop). EndedBy stop 0 (partsOf s) (verdictOf s) t) e (judged fair)
+
+  otherwise : {q : OutcomeAnswer} → badLength (length s) ≡ false → firstRefusal 0 ns ≡ never → Told t q →
+      (late : Bool) × (verdictOf s ≡ pick late (refused 14 (length s / recordLength - 1)) (toldAs (length s / recordLength - 1) (readingValues q)))
+  otherwise fair e w =
+      let end = subst (λ (stop : Stop). EndedBy stop 0 (partsOf s) (verdictOf s) t) e (judged fair) in
+      let same : 0 + length (partsOf s) - 1 ≡ length s / recordLength - 1 = omega (arith, length-parts (length s / recordLength) s) in
+      (startsLate (durationHeld t) (dayValue (t .counted .first)) (pfsHeld t), end .verdict ∙ ap (verdictOn (onStudyDays (end .all))) same ∙ told-verdict (end .taken) (length s / recordLength - 1) w)
+
+abbrev isAccepted : Verdict → Bool
+isAccepted (refused n k) = false
+isAccepted (accepted o) = true
+
+abbrev outcomeIn : Outcome → Verdict → Outcome
+outcomeIn other (refused n k) = other
+outcomeIn other (accepted o) = o
+
+-- no refusal is an acceptance
+apart : {v : Verdict} {n k : ℕ} {o : Outcome} → v ≡ refused n k → v ≡ accepted o → ⊥
+apart e f = not-both (sym (ap isAccepted (sym e ∙ f)))
+
+told-back : (last : ℕ) (y : Reading) (o : Outcome) → toldAs last y ≡ accepted o → y ≡ outcome o
+told-back last (unread n) o e = absurd (apart refl e)
+told-back last (outcome said) o e = ap outcome (ap (outcomeIn o) e)
+
+module _ (s : List ℕ) {ns : List ℕ} {t : Subject} {q : OutcomeAnswer} {o : Outcome} (e : verdictOf s ≡ accepted o) (c : Singly (partsOf s) ns t) (w : Told t q) where
+  fair : badLength (length s) ≡ false
+  unfolding verdictOf
+  fair = go (badLength (length s)) refl
+    where
+      go : (b : Bool) → badLength (length s) ≡ b → b ≡ false
+      go false h = refl
+      go true h = absurd (let z : refused 13 0 ≡ accepted o = rw h at e in apart refl z)
+
+  not-late : (late : Bool) (last : ℕ) → verdictOf s ≡ pick late (refused 14 last) (toldAs last (readingValues q)) → readingValues q ≡ outcome o
+  not-late true last f = absurd (apart f e)
+  not-late false last f = told-back last (readingValues q) o (sym f ∙ e)
+
+  accepts : (firstRefusal 0 ns ≡ never) × (readingValues q ≡ outcome o)
+  accepts = go (firstRefusal 0 ns) refl
+    where
+      go : (stop : Stop) → firstRefusal 0 ns ≡ stop → (stop ≡ never) × (readingValues q ≡ outcome o)
+      go never h = let read = otherwise s c fair h w in (refl, not-late (read .0) (length s / recordLength - 1) (read .1))
+      go (at n k) h = absurd (apart (refuses s c fair h) e)
+
+pub as-singly : AsSingly
+as-singly =
+    record {
+      accepts = λ s e c w. accepts s e c w;
+      refuses = λ s fair c e. refuses s c fair e;
+      otherwise = λ s fair c e w. otherwise s c fair e w;
+    }

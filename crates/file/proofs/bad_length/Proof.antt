@@ -1,0 +1,14 @@
+-- `file::bad_length` meets its contract.
+-- Assumes nothing.
+use Rattle.laws.proofs.Tests.{tests}
+use Rattle.file.specs.File.{badLength}
+use Rattle.file.proofs.bad_length.Statement.{statement}
+use Rattle.file.proofs.bad_length.Tie as tie
+
+pub bad-length-spec : {M : Type 1} → statement M
+bad-length-spec =
+    tie.close
+    (tie.spec
+    (λ c. unfold badLength in search tests)
+    (λ c. unfold badLength in search tests)
+    (λ c. unfold badLength in search tests))

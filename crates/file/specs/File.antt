@@ -1,0 +1,90 @@
+-- Document 01, "Change in size, file and listing" and "Where a call stops", 13 and 14: a file of records judged, by the definitions on lists.
+-- Assumes nothing.
+use mathlib.Core.Path.{_≡_}
+use mathlib.Core.Bool.{Bool, false, not}
+use mathlib.Core.List.{List, [], _∷_, _++_, reverse}
+use Prim.Native.Nat.{ℕ, zero, suc, _-_, _/_, _%_}
+use lib.Dec.{ltb, eqb}
+use lib.ListN.{length, take, drop}
+use Rattle.laws.specs.Choice.{both, either, pick}
+use Rattle.records.specs.declared.Record.{Record}
+use Rattle.codec.specs.Bytes.{recordLength}
+use Rattle.codec.specs.Reading.{refusalOfBytes, recordOfBytes}
+use Rattle.endpoints.specs.Values.{Day, none, on, Pfs, Duration, exists, Outcome}
+use Rattle.endpoints.specs.StudyRecords.{Baseline, StudyRecord, baseline, visit, therapy, death, onStudyDays}
+use Rattle.endpoints.specs.Lawful.{Past}
+use Rattle.endpoints.specs.Visits.{counting}
+use Rattle.endpoints.specs.Pfs.{pfs}
+use Rattle.endpoints.specs.Best.{firstResponse, duration}
+use Rattle.endpoints.specs.Lasting.{outcomeInOrder}
+use Rattle.endpoints.specs.Adding.{refusalOfOpening, refusalOfAdding}
+use Rattle.outcome.specs.Promises.{outcomeValues}
+use Rattle.file.specs.declared.FileAnswer.{FileAnswer}
+use Rattle.file.specs.declared.FileAnswer.the-variants as F
+
+-- 4,000 records
+abbrev pub mostBytes : ℕ
+mostBytes = 44000
+
+-- 13: length 0, no multiple of 11, or over 44,000
+unfoldable pub badLength : ℕ → Bool
+badLength n = either (eqb n 0) (either (not (eqb (n % recordLength) 0)) (ltb mostBytes n))
+
+-- the first n parts of 11 bytes
+abbrev pub parts : ℕ → List ℕ → List (List ℕ)
+parts zero s = []
+parts (suc n) s = take recordLength s ∷ parts n (drop recordLength s)
+
+abbrev pub partsOf : List ℕ → List (List ℕ)
+partsOf s = parts (length s / recordLength) s
+
+-- 2 to 5 where reading refuses the bytes, of which there are 11; else another number
+abbrev pub afterReading : List ℕ → ℕ → ℕ
+afterReading part n = pick (eqb (refusalOfBytes part) 0) n (refusalOfBytes part)
+
+-- 7 for the first record and 8 to 11 for later ones, judged against the records before it
+abbrev pub refusalOfPart : List Record → List ℕ → ℕ
+refusalOfPart [] part = afterReading part (refusalOfOpening (recordOfBytes part))
+refusalOfPart (b ∷ rs) part = afterReading part (refusalOfAdding (b ∷ rs) (recordOfBytes part))
+
+-- a refusal's number and the index of a record, or the outcome with its marks
+pub data Verdict : Type 0 where
+  refused : ℕ → ℕ → Verdict
+  accepted : Outcome → Verdict
+
+abbrev pub isAfter : Day → ℕ → Bool
+isAfter none d = false
+isAfter (on first) d = ltb d first
+
+-- 14: response would start after PFS ends
+unfoldable pub startsLate : Duration → Day → Pfs → Bool
+startsLate duration first pfs = both (exists duration) (isAfter first (pfs .day))
+
+abbrev pub responseStartsLate : Baseline → Past → Bool
+responseStartsLate b p = startsLate (duration b p) (firstResponse (counting b p)) (pfs b p)
+
+-- behind the last record: 14 with its index, or the outcome; every list of accepted records opens with a baseline, and for any other the number is 7
+abbrev pub verdictOn : List StudyRecord → ℕ → Verdict
+verdictOn [] last = refused 7 last
+verdictOn (baseline b ∷ rs) last = pick (responseStartsLate b (reverse rs)) (refused 14 last) (accepted (outcomeInOrder b rs))
+verdictOn (visit d v ∷ rs) last = refused 7 last
+verdictOn (therapy d ∷ rs) last = refused 7 last
+verdictOn (death d ∷ rs) last = refused 7 last
+
+-- the records from index k on, behind those accepted: the first bad one stops it, with its index
+abbrev pub verdictFrom : List Record → ℕ → List (List ℕ) → Verdict
+verdictFrom rs k [] = verdictOn (onStudyDays rs) (k - 1)
+verdictFrom rs k (part ∷ ps) =
+    pick (eqb (refusalOfPart rs part) 0) (verdictFrom (rs ++ (recordOfBytes part ∷ [])) (suc k) ps) (refused (refusalOfPart rs part) k)
+
+-- 13 first, with index 0
+unfoldable pub verdictOf : List ℕ → Verdict
+verdictOf s = pick (badLength (length s)) (refused 13 0) (verdictFrom [] 0 (partsOf s))
+
+-- the declared cases
+abbrev pub fileValues : FileAnswer → Verdict
+fileValues (F.Refused r) = refused (r .number) (r .index)
+fileValues (F.Accepted o) = accepted (outcomeValues o)
+
+pub record Judges (s : List ℕ) (a : FileAnswer) : Type 0 where
+  pub answer : fileValues a ≡ verdictOf s

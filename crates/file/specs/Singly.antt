@@ -1,0 +1,61 @@
+-- Document 01, "Change in size, file and listing": where a file is accepted, its outcome and marks are those read after opening with its first record and
+-- adding the others singly; where 13 does not meet it, its first refusal among 2 to 11 is the one that reading, opening or adding gives, at that index.
+-- Proved in proofs/Singly.antt.
+-- Assumes nothing.
+use mathlib.Core.Path.{_≡_}
+use mathlib.Core.Bool.{Bool, false}
+use mathlib.Core.List.{List, [], _∷_}
+use Prim.Native.Nat.{ℕ, suc, _-_, _/_}
+use lib.Dec.{eqb}
+use lib.ListN.{length}
+use Rattle.laws.specs.Choice.{pick}
+use Rattle.codec.specs.Bytes.{recordLength}
+use Rattle.codec.specs.declared.ReadResult.{ReadResult}
+use Rattle.codec.specs.Reading.{readNumber, Reads}
+use Rattle.endpoints.specs.Values.{Outcome}
+use Rattle.held.specs.declared.Subject.{Subject}
+use Rattle.opening.specs.declared.OpenAnswer.{OpenAnswer}
+use Rattle.opening.specs.Opening.{openNumber, Opened}
+use Rattle.placing.specs.declared.AddAnswer.{AddAnswer}
+use Rattle.placing.specs.Refusals.{addNumber}
+use Rattle.outcome.specs.declared.OutcomeAnswer.{OutcomeAnswer}
+use Rattle.outcome.specs.Promises.{Added, Reading, refused as unread, outcome, readingValues, Told}
+use Rattle.file.specs.File.{badLength, partsOf, Verdict, refused, accepted, verdictOf}
+
+-- the number that reading gives, or, where that is 0, the number that opening or adding gives
+abbrev pub numberOf : ReadResult → ℕ → ℕ
+numberOf x n = pick (eqb (readNumber (x .answer)) 0) n (readNumber (x .answer))
+
+-- each part is read and its record added, from a subject to another, with the numbers that the calls give. Of each call nothing is known but its promise.
+pub data Adds : Subject → List (List ℕ) → List ℕ → Subject → Type 0 where
+  none : {s : Subject} → Adds s [] [] s
+  adds : {s t u : Subject} {part : List ℕ} {x : ReadResult} {a : AddAnswer} {ps : List (List ℕ)} {ns : List ℕ} →
+      Reads part x → Added s (x .found) a t → Adds t ps ns u → Adds s (part ∷ ps) (numberOf x (addNumber a) ∷ ns) u
+
+-- the first part is read and its record opens the subject
+pub data Singly : List (List ℕ) → List ℕ → Subject → Type 0 where
+  opens : {s t : Subject} {part : List ℕ} {x : ReadResult} {a : OpenAnswer} {ps : List (List ℕ)} {ns : List ℕ} →
+      Reads part x → Opened (x .found) a s → Adds s ps ns t → Singly (part ∷ ps) (numberOf x (openNumber a) ∷ ns) t
+
+-- the first number other than 0 and its index, of numbers from index k on
+pub data Stop : Type 0 where
+  never : Stop
+  at : ℕ → ℕ → Stop
+
+abbrev pub firstRefusal : ℕ → List ℕ → Stop
+firstRefusal k [] = never
+firstRefusal k (n ∷ ns) = pick (eqb n 0) (firstRefusal (suc k) ns) (at n k)
+
+-- what a reading tells, as a verdict
+abbrev pub toldAs : ℕ → Reading → Verdict
+toldAs last (unread n) = refused n last
+toldAs last (outcome o) = accepted o
+
+pub record AsSingly : Type 0 where
+  pub accepts : (s : List ℕ) {ns : List ℕ} {t : Subject} {q : OutcomeAnswer} {o : Outcome} → verdictOf s ≡ accepted o → Singly (partsOf s) ns t → Told t q →
+      (firstRefusal 0 ns ≡ never) × (readingValues q ≡ outcome o)
+  pub refuses : (s : List ℕ) {ns : List ℕ} {t : Subject} {n k : ℕ} → badLength (length s) ≡ false → Singly (partsOf s) ns t → firstRefusal 0 ns ≡ at n k →
+      verdictOf s ≡ refused n k
+  -- and where no call refuses, it is the outcome read, or 14 with the index of the last record
+  pub otherwise : (s : List ℕ) {ns : List ℕ} {t : Subject} {q : OutcomeAnswer} → badLength (length s) ≡ false → Singly (partsOf s) ns t → firstRefusal 0 ns ≡ never →
+      Told t q → (late : Bool) × (verdictOf s ≡ pick late (refused 14 (length s / recordLength - 1)) (toldAs (length s / recordLength - 1) (readingValues q)))

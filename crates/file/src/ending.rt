@@ -1,0 +1,50 @@
+// Behind the last record of a file: refusal 14, or the outcome.
+use super::FileAnswer;
+use super::refused;
+use endpoints::DurationAnswer;
+use endpoints::MaybeDay;
+use endpoints::PfsResult;
+use held::Subject;
+use outcome::OutcomeAnswer;
+ghost use mathlib.Core.Path.{_≡_};
+ghost use Rattle.endpoints.specs.Values.{dayValue, pfsValues, durationValues};
+ghost use Rattle.file.specs.File.{isAfter, startsLate};
+ghost use Rattle.file.specs.Taking.{Ends};
+
+fn is_after(first: MaybeDay, pfs: PfsResult) -> bool
+    ensures { λ r. ⌜ r ≡ isAfter (dayValue first) (pfsValues pfs .day) ⌝ }
+{
+    match first {
+        MaybeDay::Absent => false,
+        MaybeDay::On(day) => pfs.day.0 < day.0,
+    }
+}
+
+// A response, where a duration is told of it, that starts after PFS ends.
+fn starts_late(duration: DurationAnswer, first: MaybeDay, pfs: PfsResult) -> bool
+    ensures { λ r. ⌜ r ≡ startsLate (durationValues duration) (dayValue first) (pfsValues pfs) ⌝ }
+{
+    match duration {
+        DurationAnswer::Absent => false,
+        DurationAnswer::ForDays(_) => is_after(first, pfs),
+    }
+}
+
+// No subject of a file is out of range.
+pub fn end_file(s: Subject, last: usize) -> FileAnswer
+    ensures { λ a. ⌜ Ends s last a ⌝ }
+{
+    let counted = s.counted;
+    let first = counted.first;
+    match outcome::read_outcome(s) {
+        OutcomeAnswer::OutOfRange => refused(12, last),
+        OutcomeAnswer::Read(o) => {
+            let duration = o.duration;
+            let pfs = o.pfs;
+            if starts_late(duration, first, pfs) {
+                return refused(14, last);
+            }
+            FileAnswer::Accepted(o)
+        }
+    }
+}
