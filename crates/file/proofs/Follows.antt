@@ -17,11 +17,12 @@ use Rattle.records.specs.Refusals.{refusalOf}
 use Rattle.codec.specs.Reading.{refusalOfBytes, recordOfBytes}
 use Rattle.codec.proofs.WrittenBack.{found-fine}
 use Rattle.endpoints.specs.Values.{dayValue}
-use Rattle.endpoints.specs.StudyRecords.{Baseline, onStudyDays}
+use Rattle.endpoints.specs.StudyRecords.{Baseline, baseline, fieldsPass, onStudyDays}
 use Rattle.endpoints.specs.Lawful.{Past}
 use Rattle.endpoints.specs.Visits.{counting}
 use Rattle.endpoints.specs.Best.{firstResponse}
 use Rattle.endpoints.specs.Adding.{notBaseline, refusalOfOpening, refusalOfAdding}
+use Rattle.endpoints.proofs.Refusals.{own-passed}
 use Rattle.endpoints.proofs.Calls.{none-of-both}
 use Rattle.held.specs.declared.Subject.{Subject}
 use Rattle.held.proofs.Follows.{day-of-maybe, countedOf, summary}
@@ -42,7 +43,7 @@ use Rattle.file.specs.File.{afterReading, refusalOfPart, Verdict, refuse
 use Rattle.file.specs.Singly.{toldAs}
 use Rattle.file.specs.Taking.{TakesFirst, refusalTaking, Takes, verdictHeld, Ends}
 
--- the subject is what is held after the records, which open with a baseline
+-- the subject is what is held after the records, which open with a baseline that 4 and 5 do not meet
 pub record Taken (rs : List Record) (s : Subject) : Type 0 where
   pub entry : BaselineEntry
   pub marks : List Bool
@@ -50,6 +51,7 @@ pub record Taken (rs : List Record) (s : Subject) : Type 0 where
   pub later : List Record
   pub opens : rs ≡ first entry marks sizes ∷ later
   pub held : Held entry marks sizes later s
+  pub passes : fieldsPass (baseline (base entry marks sizes)) ≡ true
 
 -- no refusal: reading refuses nothing, and the number after it is 0
 pub none-read : (part : List ℕ) (n : ℕ) → afterReading part n ≡ 0 → (refusalOfBytes part ≡ 0) × (n ≡ 0)
@@ -63,7 +65,7 @@ none-read part n e = go (eqb (refusalOfBytes part) 0) refl
 
 pub opened-taken : {a : OpenAnswer} {s : Subject} (e : Entry) (marks : List Bool) (sizes : List ℕ) → Opened (record { entry = e; sizes = sizes; marks = marks }) a s →
     openNumber a ≡ 0 → notBaseline e ≡ 0 → Taken (record { entry = e; sizes = sizes; marks = marks } ∷ []) s
-unfolding openedSubject
+unfolding openedSubject refusalOfOpening
 opened-taken (E.Baseline x) marks sizes w z n =
     let made : openedSubject (first x marks sizes) ≡ subjectOf (E.Baseline x) marks sizes = rw (← w .answer, z) in
     record {
@@ -73,6 +75,7 @@ opened-taken (E.Baseline x) marks sizes w z n =
       later = [];
       opens = refl;
       held = record { same = w .made ∙ made ∙ opening-follows x marks sizes; inside = calls-in-range .opened w z; lawfully = refl };
+      passes = own-passed (x .date) (first x marks sizes) (w .five) (none-of-both (first x marks sizes) 0 .0 (sym (w .answer) ∙ z) .0);
     }
 opened-taken (E.Visit v) marks sizes w z n = absurd (let f : ⊥ = omega arith in f)
 opened-taken (E.Therapy d) marks sizes w z n = absurd (let f : ⊥ = omega arith in f)
@@ -140,6 +143,7 @@ module _ {rs : List Record} {s : Subject} (t : Taken rs s) (part : List ℕ) (x 
         later = t .later ++ (r ∷ []);
         opens = ap (λ (l : List Record). l ++ (r ∷ [])) (t .opens);
         held = grown (t .entry) (t .marks) (t .sizes) (t .later) r (t .held) added accepts;
+        passes = t .passes;
       }
 
 -- ---- behind the last record

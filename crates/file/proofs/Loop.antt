@@ -2,7 +2,7 @@
 -- Assumes nothing.
 use mathlib.Core.Path.{_≡_, sym, _∙_, ap}
 use mathlib.Core.Bool.{true, false, not}
-use mathlib.Core.List.{List, [], _∷_, _++_}
+use mathlib.Core.List.{List, [], _∷_, _++_, map, append-assoc}
 use Prim.Native.Nat.{ℕ, suc, _+_, _-_, _*_, _/_, _%_, _≤_, _<_}
 use native.Mathlib.Numerals.{add-one}
 use native.Mathlib.Omega.{arith}
@@ -17,7 +17,7 @@ use Rattle.codec.specs.Reading.{recordOfBytes}
 use Rattle.held.specs.declared.Subject.{Subject}
 use Rattle.file.specs.declared.FileAnswer.{FileAnswer}
 use Rattle.file.specs.declared.TakenRecord.{TakenRecord}
-use Rattle.file.specs.File.{mostBytes, badLength, parts, refusalOfPart, refused, verdictFrom, verdictOf, fileValues, Judges}
+use Rattle.file.specs.File.{mostBytes, badLength, parts, partsOf, refusalOfPart, refused, verdictFrom, verdictOf, fileValues, Judges}
 use Rattle.file.specs.Taking.{TakesFirst, Takes, Ends}
 use Rattle.file.proofs.Follows.{Taken, first-taken, later-number, later-taken, ending}
 
@@ -47,23 +47,24 @@ module _ (l : List ℕ) (k : ℕ) where
       (ap (λ (m : List ℕ). take 11 (drop (k * 11) l) ∷ parts (length l / 11 - (k + 1)) m)
       (drop-drop 11 (k * 11) l ∙ ap (λ (j : ℕ). drop j l) f))
 
--- the records before index k are taken, and the verdict of the file is that of the rest behind them
+-- the records before index k are taken, and the verdict of the file is that of the rest behind them; with the rest they are all the file's records
 pub record Standing (l : List ℕ) (s : Subject) (k : ℕ) : Type 0 where
   pub before : List Record
   pub taken : Taken before s
   pub rest : verdictOf l ≡ verdictFrom before k (from l k)
+  pub all : before ++ map recordOfBytes (from l k) ≡ map recordOfBytes (partsOf l)
 
 pub bad : (l : List ℕ) (a : FileAnswer) → badLength (length l) ≡ true → fileValues a ≡ refused 13 0 → Judges l a
 unfolding verdictOf
 bad l a h e = record { answer = e ∙ rw h }
 
 module _ (l : List ℕ) (fair : badLength (length l) ≡ false) where
+  one-part : length l / 11 ≡ suc (length l / 11 - 1)
+  one-part = let h = fair-length (length l) fair in omega arith
+
   all-parts : verdictOf l ≡ verdictFrom [] 0 (take 11 l ∷ from l 1)
   unfolding verdictOf
-  all-parts =
-      let h = fair-length (length l) fair in
-      let e : length l / 11 ≡ suc (length l / 11 - 1) = omega arith in
-      rw fair (ap (λ (n : ℕ). verdictFrom [] 0 (parts n l)) e)
+  all-parts = rw fair (ap (λ (n : ℕ). verdictFrom [] 0 (parts n l)) one-part)
 
   pub first-refused : (x : TakenRecord) (a : FileAnswer) → TakesFirst (take 11 l) x → (x .number ≡ 0 → ⊥) → fileValues a ≡ refused (x .number) 0 → Judges l a
   first-refused x a w z e =
@@ -73,7 +74,7 @@ module _ (l : List ℕ) (fair : badLength (length l) ≡ false) where
   pub first-standing : (x : TakenRecord) → TakesFirst (take 11 l) x → x .number ≡ 0 → Standing l (x .subject) 1
   first-standing x w z =
       let none : eqb (refusalOfPart [] (take 11 l)) 0 ≡ true = eq-eqb _ 0 (sym (w .number) ∙ z) in
-      record { before = recordOfBytes (take 11 l) ∷ []; taken = first-taken (take 11 l) x w z; rest = all-parts ∙ rw none }
+      record { before = recordOfBytes (take 11 l) ∷ []; taken = first-taken (take 11 l) x w z; rest = all-parts ∙ rw none; all = ap (λ (n : ℕ). map recordOfBytes (parts n l)) (sym one-part) }
 
 module _ (l : List ℕ) (s : Subject) (k : ℕ) (w : Standing l s k) where
   module _ (h : k < length l / 11) (x : TakenRecord) (v : Takes s (partAt l k) x) where
@@ -97,6 +98,9 @@ module _ (l : List ℕ) (s : Subject) (k : ℕ) (w : Standing l s k) where
           rest =
               next-part ∙ rw none
               (ap (λ (j : ℕ). verdictFrom (w .before ++ (recordOfBytes (partAt l k) ∷ [])) j (from l (k + 1))) (sym (add-one k)));
+          all =
+              append-assoc (w .before) (recordOfBytes (partAt l k) ∷ []) (map recordOfBytes (from l (k + 1)))
+              ∙ ap (λ (ps : List (List ℕ)). w .before ++ map recordOfBytes ps) (sym (one-more l k h)) ∙ w .all;
         }
 
   pub ended : length l / 11 ≤ k → (a : FileAnswer) → Ends s (k - 1) a → Judges l a

@@ -59,6 +59,7 @@ module _ {rs : List Record} {s t : Subject} {part : List ℕ} {x : ReadResult} {
         later = h .later ++ (r ∷ []);
         opens = ap (λ (l : List Record). l ++ (r ∷ [])) (h .opens);
         held = grown (h .entry) (h .marks) (h .sizes) (h .later) r (h .held) added-found accepts;
+        passes = h .passes;
       }
 
 -- behind the last record, where nothing stopped it

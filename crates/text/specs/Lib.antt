@@ -1,0 +1,3 @@
+pub mod Numerals
+pub mod Text
+pub mod Laws
