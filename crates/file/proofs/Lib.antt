@@ -1,3 +1,4 @@
+pub mod Verdicts
 pub mod Returns
 pub mod Follows
 pub mod Loop

@@ -59,10 +59,10 @@ unfolding verdictOf
 bad l a h e = record { answer = e ∙ rw h }
 
 module _ (l : List ℕ) (fair : badLength (length l) ≡ false) where
-  one-part : length l / 11 ≡ suc (length l / 11 - 1)
+  pub one-part : length l / 11 ≡ suc (length l / 11 - 1)
   one-part = let h = fair-length (length l) fair in omega arith
 
-  all-parts : verdictOf l ≡ verdictFrom [] 0 (take 11 l ∷ from l 1)
+  pub all-parts : verdictOf l ≡ verdictFrom [] 0 (take 11 l ∷ from l 1)
   unfolding verdictOf
   all-parts = rw fair (ap (λ (n : ℕ). verdictFrom [] 0 (parts n l)) one-part)
 
@@ -71,17 +71,17 @@ module _ (l : List ℕ) (fair : badLength (length l) ≡ false) where
       let met : eqb (refusalOfPart [] (take 11 l)) 0 ≡ false = ne-eqb _ 0 (λ q. z (w .number ∙ q)) in
       record { answer = e ∙ ap (λ (n : ℕ). refused n 0) (w .number) ∙ sym (all-parts ∙ rw met) }
 
-  pub first-standing : (x : TakenRecord) → TakesFirst (take 11 l) x → x .number ≡ 0 → Standing l (x .subject) 1
+  abbrev pub first-standing : (x : TakenRecord) → TakesFirst (take 11 l) x → x .number ≡ 0 → Standing l (x .subject) 1
   first-standing x w z =
       let none : eqb (refusalOfPart [] (take 11 l)) 0 ≡ true = eq-eqb _ 0 (sym (w .number) ∙ z) in
       record { before = recordOfBytes (take 11 l) ∷ []; taken = first-taken (take 11 l) x w z; rest = all-parts ∙ rw none; all = ap (λ (n : ℕ). map recordOfBytes (parts n l)) (sym one-part) }
 
 module _ (l : List ℕ) (s : Subject) (k : ℕ) (w : Standing l s k) where
   module _ (h : k < length l / 11) (x : TakenRecord) (v : Takes s (partAt l k) x) where
-    next-part : verdictOf l ≡ verdictFrom (w .before) k (partAt l k ∷ from l (k + 1))
+    pub next-part : verdictOf l ≡ verdictFrom (w .before) k (partAt l k ∷ from l (k + 1))
     next-part = w .rest ∙ ap (verdictFrom (w .before) k) (one-more l k h)
 
-    number : x .number ≡ refusalOfPart (w .before) (partAt l k)
+    pub number : x .number ≡ refusalOfPart (w .before) (partAt l k)
     number = later-number (w .taken) (partAt l k) x v
 
     pub turn-refused : (a : FileAnswer) → (x .number ≡ 0 → ⊥) → fileValues a ≡ refused (x .number) k → Judges l a
@@ -89,7 +89,7 @@ module _ (l : List ℕ) (s : Subject) (k : ℕ) (w : Standing l s k) where
         let met : eqb (refusalOfPart (w .before) (partAt l k)) 0 ≡ false = ne-eqb _ 0 (λ q. z (number ∙ q)) in
         record { answer = e ∙ ap (λ (n : ℕ). refused n k) number ∙ sym (next-part ∙ rw met) }
 
-    pub turn : x .number ≡ 0 → Standing l (x .subject) (k + 1)
+    abbrev pub turn : x .number ≡ 0 → Standing l (x .subject) (k + 1)
     turn z =
         let none : eqb (refusalOfPart (w .before) (partAt l k)) 0 ≡ true = eq-eqb _ 0 (sym number ∙ z) in
         record {

@@ -9,7 +9,6 @@ use lib.Dec.{eqb}
 use borrow.Author.Tests.{eq-eqb, eqb-true}
 use lib.ListN.{length, drop}
 use Rattle.laws.specs.Choice.{pick}
-use Rattle.laws.proofs.Tests.{never as not-both}
 use Rattle.records.specs.declared.Record.{Record}
 use Rattle.codec.specs.declared.ReadResult.{ReadResult}
 use Rattle.codec.specs.Bytes.{recordLength}
@@ -28,6 +27,7 @@ use Rattle.outcome.specs.Promises.{Added, Reading, refused as unread, outcome, 
 use Rattle.outcome.proofs.Demand.{first, number, grown}
 use Rattle.file.specs.File.{badLength, parts, partsOf, afterReading, refusalOfPart, Verdict, refused, accepted, startsLate, verdictOn, verdictFrom, verdictOf}
 use Rattle.file.specs.Singly.{numberOf, Adds, none, adds, Singly, opens, Stop, never, at, firstRefusal, toldAs, AsSingly}
+use Rattle.file.proofs.Verdicts.{apart, accepted-same}
 use Rattle.file.proofs.Follows.{Taken, none-read, opened-taken, told-verdict}
 
 -- reading's number, then the other, is the part's refusal
@@ -155,21 +155,9 @@ module _ (s : List ℕ) {ns : List ℕ} {t : Subject} (c : Singly (partsOf s) ns
       let same : 0 + length (partsOf s) - 1 ≡ length s / recordLength - 1 = omega (arith, length-parts (length s / recordLength) s) in
       (startsLate (durationHeld t) (dayValue (t .counted .first)) (pfsHeld t), end .verdict ∙ ap (verdictOn (onStudyDays (end .all))) same ∙ told-verdict (end .taken) (length s / recordLength - 1) w)
 
-abbrev isAccepted : Verdict → Bool
-isAccepted (refused n k) = false
-isAccepted (accepted o) = true
-
-abbrev outcomeIn : Outcome → Verdict → Outcome
-outcomeIn other (refused n k) = other
-outcomeIn other (accepted o) = o
-
--- no refusal is an acceptance
-apart : {v : Verdict} {n k : ℕ} {o : Outcome} → v ≡ refused n k → v ≡ accepted o → ⊥
-apart e f = not-both (sym (ap isAccepted (sym e ∙ f)))
-
 told-back : (last : ℕ) (y : Reading) (o : Outcome) → toldAs last y ≡ accepted o → y ≡ outcome o
 told-back last (unread n) o e = absurd (apart refl e)
-told-back last (outcome said) o e = ap outcome (ap (outcomeIn o) e)
+told-back last (outcome said) o e = ap outcome (accepted-same e)
 
 module _ (s : List ℕ) {ns : List ℕ} {t : Subject} {q : OutcomeAnswer} {o : Outcome} (e : verdictOf s ≡ accepted o) (c : Singly (partsOf s) ns t) (w : Told t q) where
   fair : badLength (length s) ≡ false

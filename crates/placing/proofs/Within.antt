@@ -29,7 +29,7 @@ use Rattle.held.proofs.Within.{event-within, counted-within}
 use Rattle.placing.specs.Added.{heldDay, answerOn, closedOn, visitAdded, therapyAdded, deathAdded, entryAdded}
 use Rattle.placing.specs.Refusals.{earlyOn, misfitOn, refusalOn}
 
-study-day-most : (randomisation d : Date) → studyDay randomisation d ≤ lastDayNumber
+pub study-day-most : (randomisation d : Date) → studyDay randomisation d ≤ lastDayNumber
 unfolding studyDayOf
 study-day-most randomisation d = go (both (dateExists d) (dateExists randomisation)) refl (leb (dayNumber randomisation) (dayNumber d))
   where

@@ -1,0 +1,7 @@
+pub mod Numerals
+pub mod Found
+pub mod Texts
+pub mod Changes
+pub mod Lines
+pub mod Refused
+pub mod Lengths

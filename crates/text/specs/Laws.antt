@@ -5,15 +5,14 @@ use mathlib.Core.Bool.{true}
 use mathlib.Core.List.{List, _∷_}
 use Prim.Native.Nat.{ℕ, _≤_, _<_, _^_}
 use lib.ListN.{length}
-use Rattle.packing.specs.Layout.{AreBytes}
 use Rattle.criteria.specs.Inputs.{Visit}
-use Rattle.endpoints.specs.StudyRecords.{Baseline, StudyRecord, baseline, visit, fieldsPass}
+use Rattle.endpoints.specs.StudyRecords.{Baseline, baseline, visit, fieldsPass}
 use Rattle.endpoints.specs.Lawful.{Past, lawfulBehind}
 use Rattle.endpoints.specs.Lines.{VisitLine, lineOf}
 use Rattle.text.specs.Numerals.{decimal, told}
 use Rattle.text.specs.Text.{visitText, longestListing, listingOf}
 
--- what the writers of a visit's line ask: five digits are enough for the day, four for a change upwards and three for one downwards
+-- five digits are enough for the day and for the tenths of the change, and 24 bytes for the line
 pub record Short (l : VisitLine) : Type 0 where
   pub day : l .day < 100000
   pub change : l .change .tenths < 100000
@@ -25,5 +24,5 @@ pub record Lengths : Type 0 where
   -- a visit's line, where neither 4 nor 5 meets the baseline and the visit, the visit fits, and its day has five digits
   pub line : (b : Baseline) (p : Past) (d : ℕ) (v : Visit) → fieldsPass (baseline b) ≡ true → fieldsPass (visit d v) ≡ true →
       lawfulBehind b (visit d v ∷ p) ≡ true → d < 100000 → Short (lineOf b p d v)
-  -- the listing of any file; the type `u8` gives the premise
-  pub listing : (s : List ℕ) → AreBytes s → length (listingOf s) ≤ longestListing
+  -- the listing of any file
+  pub listing : (s : List ℕ) → length (listingOf s) ≤ longestListing

@@ -1,0 +1,31 @@
+-- What is asked of one case of an answer, from what is asked of the answer.
+-- Assumes nothing.
+use mathlib.Core.Path.{_≡_}
+use Prim.Native.Nat.{ℕ, _<_}
+use native.Mathlib.Omega.{arith}
+use Rattle.criteria.specs.declared.ChangeAnswer.{ChangeAnswer}
+use Rattle.criteria.specs.declared.ChangeAnswer.the-variants as C
+use Rattle.criteria.specs.Change.{changeValues}
+use Rattle.endpoints.specs.declared.DurationAnswer.{DurationAnswer}
+use Rattle.endpoints.specs.declared.DurationAnswer.the-variants as D
+use Rattle.endpoints.specs.declared.DurationResult.{DurationResult}
+use Rattle.endpoints.specs.Values.{durationValues}
+use Rattle.held.specs.Laws.{Within}
+use Rattle.placing.specs.declared.JudgedVisit.{JudgedVisit}
+use Rattle.placing.specs.declared.MaybeVisit.{MaybeVisit}
+use Rattle.placing.specs.declared.MaybeVisit.the-variants as J
+use Rattle.placing.specs.Lines.{judgedValues, visitValues}
+use Rattle.outcome.specs.Laws.{DurationWithin}
+use Rattle.listing.specs.Writing.{Writable, AllWritable}
+
+pub increase-small : (c : ChangeAnswer) (n : ℕ) → c ≡ C.Increase n → changeValues c .tenths < 100000 → n < 100000
+increase-small c n q h = rw q at h
+
+pub decrease-small : (c : ChangeAnswer) (n : ℕ) → c ≡ C.Decrease n → changeValues c .tenths < 100000 → n < 100000
+decrease-small c n q h = rw q at h
+
+pub days-small : (d : DurationAnswer) (r : DurationResult) → d ≡ D.ForDays r → DurationWithin (durationValues d) → r .days < 100000
+days-small d r q h = let w : Within (r .days) = rw q at h in omega arith
+
+pub visit-writable : (v : MaybeVisit) (j : JudgedVisit) → v ≡ J.Judged j → AllWritable (visitValues v) → Writable (judgedValues j)
+visit-writable v j q h = let w : Writable (judgedValues j) × Unit {0} = rw q at h in w .0

@@ -1,0 +1,6 @@
+pub mod Writing
+pub mod Numerals
+pub mod Bounds
+pub mod Lines
+pub mod Loop
+pub mod Pages

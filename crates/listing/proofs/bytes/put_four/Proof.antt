@@ -1,0 +1,15 @@
+-- `listing::bytes::put_four` meets its contract.
+-- Assumes nothing.
+use borrow.Author.Needs.{needs}
+use Rattle.listing.proofs.Writing.{then}
+use Rattle.listing.proofs.bytes.put_four.Statement.{statement}
+use Rattle.listing.proofs.bytes.put_four.Tie as tie
+
+pub put-four-spec : {M : Type 1} → statement M
+put-four-spec =
+    tie.close
+    (tie.spec
+    (λ c κs. search needs)
+    (λ c κs. search needs)
+    (λ c. search needs)
+    (λ c. then (c .before .before .before .before .before .before .put-two .ensures) (c .before .before .put-two2 .ensures)))

@@ -1,0 +1,25 @@
+-- `listing::visits::put_change` meets its contract.
+-- Assumes nothing.
+use borrow.Author.Needs.{needs}
+use Rattle.listing.proofs.Bounds.{increase-small, decrease-small}
+use Rattle.listing.proofs.Writing.{then}
+use Rattle.listing.proofs.visits.put_change.Statement.{statement}
+use Rattle.listing.proofs.visits.put_change.Tie as tie
+
+pub put-change-spec : {M : Type 1} → statement M
+put-change-spec =
+    tie.close
+    (tie.spec
+    (λ c. search needs)
+    (λ c κs. search needs)
+    (λ c. search needs)
+    (λ c κs. (search increase-small, search needs))
+    (λ c. search needs)
+    (λ c κs. search needs)
+    (λ c κs. (search decrease-small, search needs))
+    (λ c. search needs)
+    (λ c. rw (c .before .before .before .before .enum-told .given .1) ((c .before .before .put-one .ensures), search needs))
+    (λ c. search needs)
+    (λ c. rw (c .before .before .before .before .before .change .given .1) ((c .before .before .put-tenths .ensures .0), search needs))
+    (λ c. search needs)
+    (λ c. rw (c .before .before .before .before .before .before .before .before .before .change2 .given .1) (then (c .before .before .before .before .before .before .put-one2 .ensures) (c .before .before .put-tenths2 .ensures .0), search needs)))

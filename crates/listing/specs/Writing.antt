@@ -1,0 +1,56 @@
+-- A text written into a lent page, and what the listing promises (document 01, "Change in size, file and listing" and "Contracts" a).
+-- Assumes nothing.
+use mathlib.Core.Path.{_≡_}
+use mathlib.Core.List.{List, [], _∷_, map}
+use Prim.Native.Nat.{ℕ, _+_, _*_, _≤_, _<_}
+use lib.ListN.{length}
+use lib.Seq.{sets}
+use Rattle.codec.specs.Reading.{recordOfBytes}
+use Rattle.criteria.specs.Words.{Word}
+use Rattle.endpoints.specs.Values.{Outcome}
+use Rattle.endpoints.specs.StudyRecords.{onStudyDays}
+use Rattle.endpoints.specs.Lines.{VisitLine}
+use Rattle.outcome.specs.Promises.{outcome}
+use Rattle.outcome.specs.Laws.{TellsWithin}
+use Rattle.file.specs.declared.FileAnswer.{FileAnswer}
+use Rattle.file.specs.File.{partsOf, Verdict, refused, accepted, verdictOf, fileValues}
+use Rattle.text.specs.Text.{firstLetter, secondLetter, linesText, linesOn, listingOf, pageOf}
+
+-- a text was written into the page from a place on, which led to the place behind it; every other byte is as it was
+pub record Wrote (page : List ℕ) (at : ℕ) (text : List ℕ) (next : ℕ) (left : List ℕ) : Type 0 where
+  pub place : next ≡ at + length text
+  pub stored : left ≡ sets page at text
+
+-- the two letters of a word as one number
+abbrev pub letters : Word → ℕ
+letters w = firstLetter w * 256 + secondLetter w
+
+-- what is asked of a visit's line before it is written: numbers of at most five digits
+pub record Writable (l : VisitLine) : Type 0 where
+  pub day : l .day < 100000
+  pub change : l .change .tenths < 100000
+
+abbrev pub AllWritable : List VisitLine → Type 0
+AllWritable [] = Unit {0}
+AllWritable (l ∷ ls) = Writable l × AllWritable ls
+
+-- the longest lines of all visits together
+abbrev pub mostLines : ℕ
+mostLines = 95976
+
+abbrev pub SmallIndex : Verdict → Type 0
+SmallIndex (refused n k) = k < 100000
+SmallIndex (accepted o) = Unit {0}
+
+-- a file judged, with the lines of its visits written on the way, and no day told beyond the last; of a refused file nothing is said of the lines
+pub record JudgesInto (s lines : List ℕ) (a : FileAnswer) (n : ℕ) (left : List ℕ) : Type 0 where
+  pub answer : fileValues a ≡ verdictOf s
+  pub index : SmallIndex (fileValues a)
+  pub within : n ≤ mostLines
+  pub written : (o : Outcome) → verdictOf s ≡ accepted o →
+      TellsWithin (outcome o) × Wrote lines 0 (linesText (linesOn (onStudyDays (map recordOfBytes (partsOf s))))) n left
+
+-- the promise of listing: how many bytes, and the whole page
+pub record Lists (s page : List ℕ) (n : ℕ) (left : List ℕ) : Type 0 where
+  pub count : n ≡ length (listingOf s)
+  pub whole : left ≡ pageOf s page

@@ -1,0 +1,97 @@
+// The listing of a file (document 01, "Change in size, file and listing"): judged and its visits' lines written in one pass.
+use file::FileAnswer;
+use file::FileRefusal;
+ghost use mathlib.Core.Path.{_≡_};
+ghost use Prim.Native.Nat.{_≤_};
+ghost use lib.ListN.{length, take, drop};
+ghost use mathlib.Core.List.{_++_};
+ghost use Rattle.file.specs.File.{fileValues, refused};
+ghost use Rattle.listing.specs.Writing.{JudgesInto, Lists};
+
+mod bytes; // bytes.rt: bytes and numbers into a page
+mod words; // words.rt: the words of answers into a page
+mod visits; // visits.rt: the line of a visit
+mod outcomes; // outcomes.rt: the lines of the outcome, and the line of a refusal
+
+const RECORD_LENGTH: usize = 11;
+
+// A file judged, and how many bytes the lines of its visits take.
+struct JudgedLines {
+    answer: FileAnswer,
+    length: usize,
+}
+
+fn stopped(number: u8, index: usize) -> JudgedLines
+    ensures { λ x. ⌜ (fileValues (x .answer) ≡ refused number index) × (x .length ≡ 0) ⌝ }
+{
+    JudgedLines {
+        answer: FileAnswer::Refused(FileRefusal {
+            number: number,
+            index: index,
+        }),
+        length: 0,
+    }
+}
+
+fn judge_into(bytes: &[u8], lines: &mut [u8]) -> JudgedLines
+    requires { ⌜ length (now lines) ≡ 96023 ⌝ }
+    ensures { λ x. ⌜ JudgesInto (now (bytes .entry)) (now (lines .entry)) (x .answer) (x .length) (now (lines .exit)) ⌝ }
+{
+    if file::bad_length(bytes.len()) {
+        return stopped(13, 0);
+    }
+    let first = file::first_record(&bytes[0..11]);
+    if first.number != 0 {
+        return stopped(first.number, 0);
+    }
+    let count = bytes.len() / RECORD_LENGTH;
+    let mut subject = first.subject;
+    let mut at: usize = 0;
+    let mut k: usize = 1;
+    while k < count {
+        let from = k * RECORD_LENGTH;
+        let to = from + RECORD_LENGTH;
+        let taken = file::later_record(subject, &bytes[from..to]);
+        if taken.number != 0 {
+            return stopped(taken.number, k);
+        }
+        let visit = taken.visit;
+        let next = taken.subject;
+        at = visits::put_lines(lines, at, visit);
+        subject = next;
+        k += 1;
+    }
+    let answer = file::end_file(subject, k - 1);
+    JudgedLines {
+        answer: answer,
+        length: at,
+    }
+}
+
+fn copy(from: &[u8], page: &mut [u8], n: usize)
+    requires { ⌜ (n ≤ length (now from)) × (n ≤ length (now page)) ⌝ }
+    ensures { λ _. ⌜ now (page .exit) ≡ take n (now (from .entry)) ++ drop n (now (page .entry)) ⌝ }
+{
+    let mut i: usize = 0;
+    while i < n {
+        page[i] = from[i];
+        i += 1;
+    }
+}
+
+// Room for the longest listing there can be, so that none is cut short.
+pub fn list(bytes: &[u8], page: &mut [u8; 96023]) -> usize
+    ensures { λ n. ⌜ Lists (now (bytes .entry)) (now (page .entry)) n (now (page .exit)) ⌝ }
+{
+    let mut text = [0u8; 96023];
+    let judged = judge_into(bytes, &mut text);
+    let answer = judged.answer;
+    match answer {
+        FileAnswer::Refused(refusal) => outcomes::put_refusal(page, refusal),
+        FileAnswer::Accepted(outcome) => {
+            let n = outcomes::put_outcome(&mut text, judged.length, outcome);
+            copy(&text, page, n);
+            n
+        }
+    }
+}

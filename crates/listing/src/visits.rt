@@ -1,0 +1,107 @@
+// The line of a visit.
+use super::bytes::digit;
+use super::bytes::put_decimal;
+use super::bytes::put_one;
+use super::bytes::put_two;
+use super::words::overall_letters;
+use super::words::put_word;
+use super::words::status_letters;
+use super::words::target_letters;
+use criteria::ChangeAnswer;
+use criteria::Overall;
+use criteria::Target;
+use placing::JudgedVisit;
+use placing::MaybeVisit;
+use records::Status;
+ghost use mathlib.Core.Path.{_≡_};
+ghost use mathlib.Core.List.{[], _∷_, _++_};
+ghost use Prim.Native.Nat.{_+_, _≤_, _<_};
+ghost use lib.ListN.{length};
+ghost use Rattle.criteria.specs.Words.{targetWord, statusWord, overallWord};
+ghost use Rattle.criteria.specs.Change.{changeValues};
+ghost use Rattle.placing.specs.Lines.{judgedValues, visitValues};
+ghost use Rattle.text.specs.Numerals.{decimal};
+ghost use Rattle.text.specs.Text.{wordText, tenthsText, changeText, visitText, linesText};
+ghost use Rattle.listing.specs.Writing.{Wrote, AllWritable, Writable};
+
+fn put_tenths(page: &mut [u8], at: usize, n: u64) -> usize
+    requires { ⌜ (n < 100000) × (at + 7 ≤ length (now page)) ⌝ }
+    ensures { λ r. ⌜ (Wrote (now (page .entry)) at (tenthsText n) r (now (page .exit))) × (r ≤ at + 7) ⌝ }
+{
+    let whole = (n / 10) as u32;
+    let tenth = digit((n % 10) as u32);
+    let point = put_decimal(page, at, whole);
+    put_two(page, point, b'.', tenth)
+}
+
+fn put_change(page: &mut [u8], at: usize, change: ChangeAnswer) -> usize
+    requires { ⌜ (changeValues change .tenths < 100000) × (at + 8 ≤ length (now page)) ⌝ }
+    ensures { λ r. ⌜ (Wrote (now (page .entry)) at (changeText (changeValues change)) r (now (page .exit))) × (r ≤ at + 8) ⌝ }
+{
+    match change {
+        ChangeAnswer::Absent => put_one(page, at, b'-'),
+        ChangeAnswer::Increase(n) => put_tenths(page, at, n),
+        ChangeAnswer::Decrease(n) => {
+            let next = put_one(page, at, b'-');
+            put_tenths(page, next, n)
+        }
+    }
+}
+
+// The letter and the study day.
+fn put_start(page: &mut [u8], at: usize, day: u32) -> usize
+    requires { ⌜ (day < 100000) × (at + 7 ≤ length (now page)) ⌝ }
+    ensures { λ r. ⌜ (Wrote (now (page .entry)) at (86 ∷ 32 ∷ decimal day) r (now (page .exit))) × (r ≤ at + 7) ⌝ }
+{
+    let next = put_two(page, at, b'V', b' ');
+    put_decimal(page, next, day)
+}
+
+fn put_answers(
+    page: &mut [u8],
+    at: usize,
+    target: Target,
+    status: Status,
+    overall: Overall,
+) -> usize
+    requires { ⌜ at + 9 ≤ length (now page) ⌝ }
+    ensures { λ r. ⌜ Wrote (now (page .entry)) at ((32 ∷ wordText (targetWord target)) ++ ((32 ∷ wordText (statusWord status)) ++ (32 ∷ wordText (overallWord overall)))) r (now (page .exit)) ⌝ }
+{
+    let second = put_word(page, at, target_letters(target));
+    let third = put_word(page, second, status_letters(status));
+    put_word(page, third, overall_letters(overall))
+}
+
+// The change and the newline.
+fn put_end(page: &mut [u8], at: usize, change: ChangeAnswer) -> usize
+    requires { ⌜ (changeValues change .tenths < 100000) × (at + 10 ≤ length (now page)) ⌝ }
+    ensures { λ r. ⌜ (Wrote (now (page .entry)) at (32 ∷ (changeText (changeValues change) ++ (10 ∷ []))) r (now (page .exit))) × (r ≤ at + 10) ⌝ }
+{
+    let next = put_one(page, at, b' ');
+    let last = put_change(page, next, change);
+    put_one(page, last, b'\n')
+}
+
+fn put_visit(page: &mut [u8], at: usize, visit: JudgedVisit) -> usize
+    requires { ⌜ (Writable (judgedValues visit)) × (at + 26 ≤ length (now page)) ⌝ }
+    ensures { λ r. ⌜ Wrote (now (page .entry)) at (visitText (judgedValues visit)) r (now (page .exit)) ⌝ }
+{
+    let target = visit.target;
+    let status = visit.nontarget;
+    let overall = visit.overall;
+    let change = visit.change;
+    let answers = put_start(page, at, visit.day.0);
+    let end = put_answers(page, answers, target, status, overall);
+    put_end(page, end, change)
+}
+
+// A line for a visit, and none for any other record.
+pub(crate) fn put_lines(page: &mut [u8], at: usize, visit: MaybeVisit) -> usize
+    requires { ⌜ (AllWritable (visitValues visit)) × (at + 26 ≤ length (now page)) ⌝ }
+    ensures { λ r. ⌜ Wrote (now (page .entry)) at (linesText (visitValues visit)) r (now (page .exit)) ⌝ }
+{
+    match visit {
+        MaybeVisit::Absent => at,
+        MaybeVisit::Judged(v) => put_visit(page, at, v),
+    }
+}

@@ -1,0 +1,186 @@
+-- The listing of every file has at most 96,023 bytes: by recursion over its parts, as it is judged.
+-- Assumes nothing.
+use mathlib.Core.Path.{_≡_, refl, sym, _∙_, ap, subst}
+use mathlib.Core.Bool.{Bool, true, false}
+use mathlib.Core.List.{List, [], _∷_, _++_, map, append-nil, append-assoc}
+use Prim.Native.Nat.{ℕ, zero, suc, _+_, _-_, _*_, _/_, _≤_}
+use native.Mathlib.Omega.{arith}
+use lib.Dec.{eqb}
+use lib.ListN.{length, drop, length-append, length-reverse, length-map}
+use borrow.Author.Tests.{eqb-true}
+use Rattle.laws.specs.Choice.{pick}
+use Rattle.records.specs.declared.BaselineEntry.{BaselineEntry}
+use Rattle.records.specs.declared.Record.{Record}
+use Rattle.codec.specs.Bytes.{recordLength}
+use Rattle.codec.specs.Reading.{recordOfBytes}
+use Rattle.endpoints.specs.StudyRecords.{Baseline, baseline, fieldsPass, allPass, onStudyDays}
+use Rattle.endpoints.specs.Lawful.{Past, latestDay}
+use Rattle.endpoints.specs.Lines.{visitLines}
+use Rattle.endpoints.specs.Settled.{outcome}
+use Rattle.endpoints.specs.Adding.{notBaseline, refusalAfter, refusalOfOpening, refusalOfAdding}
+use Rattle.endpoints.proofs.Calls.{none-of-both}
+use Rattle.endpoints.proofs.Refusals.{own-passed}
+use Rattle.held.specs.declared.Subject.{Subject}
+use Rattle.held.specs.Laws.{Within}
+use Rattle.held.proofs.Follows.{summary}
+use Rattle.held.proofs.Within.{subject-within}
+use Rattle.outcome.specs.Promises.{nextSubject, Added}
+use Rattle.outcome.specs.Laws.{DurationWithin, TellsWithin}
+use Rattle.outcome.proofs.Within.{calls-in-range}
+use Rattle.outcome.proofs.Runs.{opens, some-refusal, readable}
+use Rattle.outcome.proofs.Demand.{first, base, on-day, past, past-one-more, Held, grown, reading}
+use Rattle.file.specs.File.{badLength, parts, partsOf, refusalOfPart, refused, accepted, responseStartsLate, verdictFrom, verdictOf}
+use Rattle.file.proofs.Follows.{none-read, opened-taken}
+use Rattle.file.proofs.Loop.{fair-length}
+use Rattle.text.specs.Text.{outcomeText, refusalText, linesText, listingText, listingOf, longestListing}
+use Rattle.text.specs.Laws.{Lengths}
+use Rattle.text.proofs.Numerals.{decimal-tells}
+use Rattle.text.proofs.Found.{found-five}
+use Rattle.text.proofs.Texts.{refusal-length, outcome-length}
+use Rattle.text.proofs.Lines.{line-short, visits-length}
+use Rattle.text.proofs.Refused.{part-small}
+
+-- the listing of the parts from index k on, behind the records accepted
+abbrev listingFrom : List Record → ℕ → List (List ℕ) → List ℕ
+listingFrom rs k ps = listingText (verdictFrom rs k ps) (onStudyDays (rs ++ map recordOfBytes ps))
+
+-- a part's number and index
+refused-short : (rs : List Record) (k : ℕ) (part : List ℕ) → k ≤ 4000 → length (refusalText (refusalOfPart rs part) k) ≤ 12
+refused-short rs k part h = refusal-length (refusalOfPart rs part) k (omega (arith, part-small rs part)) (omega arith)
+
+module _ (x : BaselineEntry) (marks : List Bool) (sizes : List ℕ) (passes : fieldsPass (baseline (base x marks sizes)) ≡ true) where
+  abbrev b : Baseline
+  b = base x marks sizes
+
+  -- the records accepted, by those behind the baseline
+  abbrev whole : List Record → List Record
+  whole later = first x marks sizes ∷ later
+
+  -- those behind it, newest first and on their study days
+  abbrev behind : List Record → Past
+  behind = past x marks sizes
+
+  -- what the records accepted behind the baseline bring: a held subject bounds every day, and fields that pass bound every change
+  record Known (later : List Record) (s : Subject) : Type 0 where
+    held : Held x marks sizes later s
+    pass : allPass (behind later) ≡ true
+
+  module _ (later : List Record) (s : Subject) (h : Known later s) where
+    -- every visit is on or before the latest day
+    latest-within : Within (latestDay (behind later))
+    unfolding summary
+    latest-within = subst (λ (t : Subject). Within (t .latest .0)) (h .held .same) (subject-within s (h .held .inside) .latest)
+
+    told-within : Within (outcome b (behind later) .pfs .day) × DurationWithin (outcome b (behind later) .duration)
+    told-within =
+        let read = readable s in
+        subst TellsWithin (reading x marks sizes later (h .held) (read .1)) (calls-in-range .told (read .1) (h .held .inside))
+
+    accepted-short : length (linesText (visitLines b (behind later)) ++ outcomeText (outcome b (behind later))) ≤ 24 * length later + 47
+    accepted-short =
+        let latest = latest-within in
+        let lines = visits-length b (behind later) passes (h .pass) (h .held .lawfully) (omega arith) in
+        let rest = outcome-length (outcome b (behind later)) (told-within .0) (told-within .1) in
+        omega (
+          arith,
+          length-append (linesText (visitLines b (behind later))) (outcomeText (outcome b (behind later))),
+          length-reverse (map (on-day x marks sizes) later),
+          length-map later (on-day x marks sizes),
+        )
+
+    ended-short : (k : ℕ) → k ≤ 4000 → length (listingFrom (whole later) k []) ≤ 24 * length later + 47
+    ended-short k l = rw (append-nil later) (go (responseStartsLate b (behind later)))
+      where
+        go : (late : Bool) →
+            length (listingText (pick late (refused 14 (k - 1)) (accepted (outcome b (behind later)))) (onStudyDays (whole later))) ≤ 24 * length later + 47
+        go true = omega (arith, refusal-length 14 (k - 1) (omega arith) (omega arith))
+        go false = accepted-short
+
+    module _ (part : List ℕ) (e : refusalOfPart (whole later) part ≡ 0) where
+      abbrev r : Record
+      r = recordOfBytes part
+
+      accepts : refusalOfAdding (whole later) r ≡ 0
+      accepts = none-read part (refusalOfAdding (whole later) r) e .1
+
+      passed : fieldsPass (on-day x marks sizes r) ≡ true
+      unfolding refusalOfAdding
+      passed =
+          own-passed (x .date) r (found-five part)
+          (none-of-both r (refusalAfter (onStudyDays (whole later)) (on-day x marks sizes r)) .0 accepts .0)
+
+      one-more : Known (later ++ (r ∷ [])) (nextSubject s r)
+      one-more =
+          let some = some-refusal s r in
+          let added : Added s r (some .0) (nextSubject s r) = record { answer = some .1; left = refl } in
+          record {
+            held = grown x marks sizes later r (h .held) added (ap (λ (n : ℕ). eqb n 0) accepts);
+            pass = ap allPass (past-one-more x marks sizes later r) ∙ rw passed (h .pass);
+          }
+
+  later-short : (later : List Record) (k : ℕ) (ps : List (List ℕ)) (s : Subject) → Known later s → k + length ps ≤ 4000 →
+      length (listingFrom (whole later) k ps) ≤ 24 * (length later + length ps) + 47
+  later-short later k [] s h l = omega (arith, ended-short later s h k (omega arith))
+  later-short later k (part ∷ ps) s h l =
+      go (eqb (refusalOfPart (whole later) part) 0) refl (λ t m. later-short (later ++ (recordOfBytes part ∷ [])) (suc k) ps t m (omega arith))
+    where
+      go : (z : Bool) → eqb (refusalOfPart (whole later) part) 0 ≡ z →
+          ((t : Subject) → Known (later ++ (recordOfBytes part ∷ [])) t →
+          length (listingFrom (whole (later ++ (recordOfBytes part ∷ []))) (suc k) ps) ≤ 24 * (length (later ++ (recordOfBytes part ∷ [])) + length ps) + 47) →
+          length
+          (listingText (pick z (verdictFrom (whole (later ++ (recordOfBytes part ∷ []))) (suc k) ps) (refused (refusalOfPart (whole later) part) k))
+          (onStudyDays (whole (later ++ map recordOfBytes (part ∷ ps)))))
+          ≤ 24 * (length later + length (part ∷ ps)) + 47
+      go true q more =
+          let bound = more (nextSubject s (recordOfBytes part)) (one-more later s h part (eqb-true (refusalOfPart (whole later) part) 0 q)) in
+          let joined = append-assoc later (recordOfBytes part ∷ []) (map recordOfBytes ps) in
+          omega (arith, rw joined at bound, length-append later (recordOfBytes part ∷ []))
+      go false q more = omega (arith, refused-short (whole later) k part (omega arith))
+
+-- ---- the whole file
+
+length-parts : (n : ℕ) (s : List ℕ) → length (parts n s) ≡ n
+length-parts zero s = refl
+length-parts (suc n) s = ap suc (length-parts n (drop recordLength s))
+
+module _ (part : List ℕ) (ps : List (List ℕ)) (h : length ps ≤ 3999) where
+  abbrev opening : Record
+  opening = recordOfBytes part
+
+  -- an accepted opening leaves a held subject and nothing behind it
+  opened-short : refusalOfPart [] part ≡ 0 → length (listingFrom (opening ∷ []) 1 ps) ≤ longestListing
+  unfolding refusalOfOpening
+  opened-short e =
+      let accepts = none-read part (refusalOfOpening opening) e .1 in
+      let own = none-of-both opening (notBaseline (opening .entry)) .0 accepts in
+      let made = opens opening (found-five part) in
+      let t = opened-taken (opening .entry) (opening .marks) (opening .sizes) (made .2) (made .2 .answer ∙ accepts) (own .1) in
+      let alone : t .later ≡ [] = cc (t .opens) in
+      let known : Known (t .entry) (t .marks) (t .sizes) (t .passes) (t .later) (made .1) = record { held = t .held; pass = rw alone } in
+      let bound = later-short (t .entry) (t .marks) (t .sizes) (t .passes) (t .later) 1 ps (made .1) known (omega arith) in
+      let bound-here = subst (λ (rs : List Record). length (listingFrom rs 1 ps) ≤ 24 * (length (t .later) + length ps) + 47) (sym (t .opens)) bound in
+      omega (arith, ap length alone)
+
+  file-short : length (listingFrom [] 0 (part ∷ ps)) ≤ longestListing
+  file-short = go (eqb (refusalOfPart [] part) 0) refl
+    where
+      go : (z : Bool) → eqb (refusalOfPart [] part) 0 ≡ z →
+          length (listingText (pick z (verdictFrom (opening ∷ []) 1 ps) (refused (refusalOfPart [] part) 0)) (onStudyDays (opening ∷ map recordOfBytes ps))) ≤ longestListing
+      go true q = opened-short (eqb-true (refusalOfPart [] part) 0 q)
+      go false q = omega (arith, refused-short [] 0 part (omega arith))
+
+listing-short : (s : List ℕ) → length (listingOf s) ≤ longestListing
+unfolding listingOf verdictOf
+listing-short s = go (badLength (length s)) refl
+  where
+    go : (z : Bool) → badLength (length s) ≡ z →
+        length (listingText (pick z (refused 13 0) (verdictFrom [] 0 (partsOf s))) (onStudyDays (map recordOfBytes (partsOf s)))) ≤ longestListing
+    go true q = omega (arith, refusal-length 13 0 (omega arith) (omega arith))
+    go false q =
+        let fair = fair-length (length s) q in
+        let one : length s / recordLength ≡ suc (length s / recordLength - 1) = omega arith in
+        let rest = parts (length s / recordLength - 1) (drop recordLength s) in
+        rw one (file-short _ rest (omega (arith, length-parts (length s / recordLength - 1) (drop recordLength s))))
+
+pub lengths : Lengths
+lengths = record { tells = decimal-tells; line = line-short; listing = listing-short }
