@@ -6,7 +6,7 @@ use Prim.Native.Nat.{ℕ, suc, _+_, _≤_, _<_}
 use native.Mathlib.Nat.{zero-add}
 use native.Mathlib.Numerals.{add-one}
 use native.Mathlib.Omega.{arith}
-use lib.ListN.{length, getD, set, take, drop}
+use lib.ListN.{length, length-append, getD, set, take, drop}
 use lib.Seq.{drop-cons, append-snoc, set-at, take-suc, length-take-le, take-append-seam, sets-eq}
 use Rattle.codec.specs.Reading.{recordOfBytes}
 use Rattle.endpoints.specs.StudyRecords.{onStudyDays}
@@ -77,3 +77,8 @@ module _ (s lines : List ℕ) (a : FileAnswer) (m : ℕ) (lines₁ : List ℕ) (
         let copy : take n lines₂ ≡ listingOf s =
         ap (λ (k : ℕ). take k lines₂) (done .0) ∙ ap (take (length (listingOf s))) (done .1) ∙ take-append-seam (listingOf s) (drop (length (listingOf s)) lines) in
         record { count = done .0; whole = e ∙ (λ i. copy i ++ drop (done .0 i) page) }
+
+-- the text is within the page
+pub within-page : (s page left : List ℕ) (n : ℕ) → Lists s page n left → n ≤ length left
+unfolding pageOf
+within-page s page left n w = omega (arith, w .count, ap length (w .whole), length-append (listingOf s) (drop (length (listingOf s)) page))

@@ -1,0 +1,52 @@
+// What standard input holds, to its end or past the longest file.
+ghost use mathlib.Core.Path.{_≡_};
+ghost use Prim.Native.Nat.{_+_, _≤_};
+ghost use lib.ListN.{length};
+
+// A file has at most this many bytes, so that one byte more is enough to refuse it.
+const MOST_BYTES: usize = 44000;
+
+pub(crate) struct Input {
+    // A read failed.
+    pub(crate) failed: bool,
+    // How many bytes were read.
+    pub(crate) count: usize,
+}
+
+fn store(chunk: &[u8], n: usize, bytes: &mut [u8], at: usize)
+    requires { ⌜ (n ≤ length (now chunk)) × (at + n ≤ length (now bytes)) ⌝ }
+{
+    let mut i: usize = 0;
+    while i < n {
+        bytes[at + i] = chunk[i];
+        i += 1;
+    }
+}
+
+pub(crate) fn read_input(bytes: &mut [u8]) -> Input
+    requires { ⌜ length (now bytes) ≡ 65536 ⌝ }
+    ensures { λ x. ⌜ x .count ≤ length (now (bytes .exit)) ⌝ }
+{
+    let mut space = io::buffer();
+    let chunk: &mut [u8] = &mut space;
+    let mut count: usize = 0;
+    while count <= MOST_BYTES {
+        let got = libc::read(libc::STDIN_FILENO, chunk);
+        if got < 0 {
+            return Input {
+                failed: true,
+                count: count,
+            };
+        }
+        let n = io::count(got, chunk);
+        if n == 0 {
+            break;
+        }
+        store(chunk, n, bytes, count);
+        count += n;
+    }
+    Input {
+        failed: false,
+        count: count,
+    }
+}

@@ -1,0 +1,37 @@
+// The listing program (document 01, "Change in size, file and listing"): a file from standard input, its listing to standard output. A read
+// that fails is told from an end of input, so that a file that was cut off is never listed as a whole one.
+ghost use mathlib.Core.Path.{_≡_};
+ghost use lib.ListN.{length};
+
+mod input; // input.rt: what standard input holds
+
+// Room for the longest listing there can be.
+fn blank_page() -> [u8; 96023]
+    ensures { λ r. ⌜ 96023 ≡ length r ⌝ }
+{
+    [0; 96023]
+}
+
+fn print_listing(bytes: &[u8]) {
+    let mut page = blank_page();
+    let n = listing::list(bytes, &mut page);
+    if !io::write_all(libc::STDOUT_FILENO, &page[..n]) {
+        io::write_all(
+            libc::STDERR_FILENO,
+            b"list: standard output cannot be written\n",
+        );
+    }
+}
+
+fn main() {
+    let mut bytes = io::large_buffer();
+    let read = input::read_input(&mut bytes);
+    if read.failed {
+        io::write_all(
+            libc::STDERR_FILENO,
+            b"list: standard input cannot be read\n",
+        );
+        return;
+    }
+    print_listing(&bytes[..read.count]);
+}
