@@ -1,10 +1,11 @@
 // The change from baseline.
-use super::sums::all_measured;
-use super::sums::measured_sum;
 use criteria::BaselineDisease;
 use criteria::ChangeAnswer;
 ghost use mathlib.Core.Path.{_≡_};
-ghost use Prim.Native.Nat.{_*_, _≤_};
+ghost use mathlib.Core.Bool.{Bool};
+ghost use mathlib.Core.List.{List};
+ghost use Prim.Native.Nat.{ℕ, _*_, _≤_};
+ghost use Rattle.criteria.specs.Sums.{measuredSum, allMeasured};
 ghost use Rattle.criteria.specs.Change.{nearest, changeValues, changeBetween, changeOf};
 
 // A part of the baseline sum in tenths of a percent.
@@ -30,21 +31,22 @@ fn change_between(baseline: u32, sum: u32) -> ChangeAnswer
     ChangeAnswer::Decrease(less)
 }
 
+// From whether every target is measured and the sum of the measured.
 pub(crate) fn change_from_baseline(
     baseline: BaselineDisease,
-    measured: [bool; 5],
-    sizes: [u16; 5],
+    complete: bool,
+    sum: u32,
 ) -> ChangeAnswer
-    ensures { λ r. ⌜ changeValues r ≡ changeOf baseline measured sizes ⌝ }
+    ensures { λ r. ⌜ ((measured : List Bool) (sizes : List ℕ) → complete ≡ allMeasured (baseline .count) measured → sum ≡ measuredSum measured sizes → changeValues r ≡ changeOf baseline measured sizes) ⌝ }
 {
     if baseline.count == 0 {
         return ChangeAnswer::Absent;
     }
-    if !all_measured(baseline.count, measured) {
+    if !complete {
         return ChangeAnswer::Absent;
     }
     if baseline.sum == 0 {
         return ChangeAnswer::Absent;
     }
-    change_between(baseline.sum, measured_sum(measured, sizes))
+    change_between(baseline.sum, sum)
 }

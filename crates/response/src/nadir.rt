@@ -1,22 +1,19 @@
 // The nadir after a visit.
-use super::sums::all_measured;
-use super::sums::measured_sum;
 use criteria::Earlier;
 ghost use mathlib.Core.Path.{_≡_};
+ghost use mathlib.Core.Bool.{Bool};
+ghost use mathlib.Core.List.{List};
+ghost use Prim.Native.Nat.{ℕ};
+ghost use Rattle.criteria.specs.Sums.{measuredSum, allMeasured};
 ghost use Rattle.criteria.specs.Nadir.{afterVisit};
 
-pub(crate) fn after_visit(
-    count: u8,
-    earlier: Earlier,
-    measured: [bool; 5],
-    sizes: [u16; 5],
-) -> Earlier
-    ensures { λ r. ⌜ r ≡ afterVisit count earlier measured sizes ⌝ }
+// From whether every target is measured and the sum of the measured.
+pub(crate) fn after_visit(earlier: Earlier, complete: bool, sum: u32) -> Earlier
+    ensures { λ r. ⌜ ((count : ℕ) (measured : List Bool) (sizes : List ℕ) → complete ≡ allMeasured count measured → sum ≡ measuredSum measured sizes → r ≡ afterVisit count earlier measured sizes) ⌝ }
 {
-    if !all_measured(count, measured) {
+    if !complete {
         return earlier;
     }
-    let sum = measured_sum(measured, sizes);
     if earlier.nadir < sum {
         return earlier;
     }

@@ -1,11 +1,12 @@
 // The target answer: six rules, the first that applies.
-use super::sums::all_measured;
-use super::sums::measured_sum;
 use criteria::BaselineDisease;
 use criteria::Earlier;
 use criteria::Target;
 ghost use mathlib.Core.Path.{_≡_};
+ghost use mathlib.Core.Bool.{Bool};
+ghost use mathlib.Core.List.{List};
 ghost use Rattle.criteria.specs.Words.{targetWord};
+ghost use Rattle.criteria.specs.Sums.{measuredSum, allMeasured};
 ghost use Rattle.criteria.specs.Targets.{allGone, grown, shrunk, targetAnswer};
 
 // The short axis in millimetres up to which a node is normal.
@@ -42,23 +43,23 @@ fn has_shrunk(baseline: u32, sum: u32) -> bool
     10 * sum as u64 <= PARTIAL_TENTHS * baseline as u64
 }
 
+// From whether every target is measured, the sum of the measured and the sizes.
 pub(crate) fn target_answer(
     baseline: BaselineDisease,
     earlier: Earlier,
-    measured: [bool; 5],
+    complete: bool,
+    sum: u32,
     sizes: [u16; 5],
 ) -> Target
-    ensures { λ r. ⌜ targetWord r ≡ targetAnswer baseline earlier measured sizes ⌝ }
+    ensures { λ r. ⌜ ((measured : List Bool) → complete ≡ allMeasured (baseline .count) measured → sum ≡ measuredSum measured sizes → targetWord r ≡ targetAnswer baseline earlier measured sizes) ⌝ }
 {
     if baseline.count == 0 {
         return Target::NA;
     }
     let nodes = baseline.nodes;
-    let complete = all_measured(baseline.count, measured);
     if complete & all_gone(baseline.count, nodes, sizes) {
         return Target::CR;
     }
-    let sum = measured_sum(measured, sizes);
     if has_grown(earlier.nadir, sum) {
         return Target::PD;
     }

@@ -1,4 +1,4 @@
--- `response::judge_visit` meets its contract: each part is what its rule ensures.
+-- `response::judge_visit` meets its contract: each part is what its rule ensures at the completeness and the sum of this visit.
 -- Assumes nothing.
 use borrow.Author.Needs.{needs}
 use Rattle.response.proofs.judge_visit.Statement.{statement}
@@ -12,4 +12,16 @@ judge-visit-spec =
     (λ c κs. search needs)
     (λ c κs. search needs)
     (λ c κs. search needs)
-    (λ c. let t = c .before .before .before .target-answer .ensures in record { target = t; overall = rw (← t) (c .before .before .overall-answer .ensures); change = c .before .change-from-baseline .ensures; after = c .after-visit .ensures }))
+    (λ c κs. search needs)
+    (λ c κs. search needs)
+    (λ c.
+    let summed = c .before .before .before .before in
+    let me = summed .before .all-measured .ensures in
+    let se = summed .measured-sum .ensures in
+    let t = c .before .before .before .target-answer .ensures _ me se in
+    record {
+      target = t;
+      overall = rw (← t) (c .before .before .overall-answer .ensures);
+      change = c .before .change-from-baseline .ensures _ _ me se;
+      after = c .after-visit .ensures _ _ _ me se;
+    }))

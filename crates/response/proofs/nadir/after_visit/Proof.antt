@@ -1,7 +1,6 @@
 -- `response::nadir::after_visit` meets its contract.
 -- Assumes nothing.
 use Rattle.response.proofs.Least.{incomplete, not-less, least-now}
-use borrow.Author.Needs.{needs}
 use Rattle.response.proofs.nadir.after_visit.Statement.{statement}
 use Rattle.response.proofs.nadir.after_visit.Tie as tie
 
@@ -9,8 +8,6 @@ pub after-visit-spec : {M : Type 1} → statement M
 after-visit-spec =
     tie.close
     (tie.spec
-    (λ c κs. search needs)
-    (λ c. search incomplete)
-    (λ c κs. search needs)
-    (λ c. search not-less)
-    (λ c. search least-now))
+    (λ c. λ count measured sizes me se. search incomplete)
+    (λ c. λ count measured sizes me se. search not-less)
+    (λ c. λ count measured sizes me se. search least-now))

@@ -9,14 +9,12 @@ pub target-answer-spec : {M : Type 1} → statement M
 target-answer-spec =
     tie.close
     (tie.spec
-    (λ c. search no-targets)
+    (λ c. λ measured me se. search no-targets)
     (λ c κs. search needs)
+    (λ c. λ measured me se. search complete)
     (λ c κs. search needs)
-    (λ c. search complete)
+    (λ c. λ measured me se. search progressive)
+    (λ c. λ measured me se. search some-unmeasured)
     (λ c κs. search needs)
-    (λ c κs. search needs)
-    (λ c. search progressive)
-    (λ c. search some-unmeasured)
-    (λ c κs. search needs)
-    (λ c. search partly)
-    (λ c. search stable))
+    (λ c. λ measured me se. search partly)
+    (λ c. λ measured me se. search stable))
