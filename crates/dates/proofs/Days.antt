@@ -1,39 +1,81 @@
--- The tables of days and the closed form of the years' days agree with the definitions; what an existing date says of its fields.
+-- The closed forms of the days agree with the definitions; what an existing date says of its fields.
 -- Assumes nothing.
-use mathlib.Core.Path.{_≡_, refl}
+use mathlib.Core.Path.{_≡_, refl, sym}
 use mathlib.Core.Bool.{Bool, true, false}
-use mathlib.Core.List.{List}
 use Prim.Native.Nat.{ℕ, _+_, _-_, _*_, _/_, _≤_, _<_}
-use native.Mathlib.Nat.{le-trans}
+use native.Mathlib.Nat.{le-trans, add-sub-of-le}
 use native.Mathlib.Omega.{arith}
 use lib.Dec.{eqb, leb, ltb}
-use lib.ListN.{getD}
-use borrow.Author.Tests.{eqb-true, eqb-false, leb-true, ltb-false}
-use Rattle.laws.specs.Choice.{both, all}
+use borrow.Author.Tests.{lt-ltb, le-ltb, le-leb, lt-leb, eqb-true, eqb-false, leb-true, leb-false, ltb-false}
+use Rattle.laws.specs.Choice.{both, either, pick, all}
 use Rattle.laws.proofs.Tests.{both-true}
 use Rattle.laws.proofs.Every.{all-at}
 use Rattle.dates.specs.Calendar.{leapYear, daysInMonth, dateExists, daysOfYears, daysOfMonths}
 use Rattle.dates.specs.declared.Date.{Date}
 
--- a table has at m the days before month m, and at most 335
-abbrev pub monthRight : Bool → List ℕ → ℕ → Bool
-monthRight leap t m = both (eqb (getD t m 0) (daysOfMonths leap (m - 1))) (leb (getD t m 0) 335)
+-- a closed form has the days, and a bound
+abbrev isRight : ℕ → ℕ → ℕ → Bool
+isRight n days most = both (eqb n days) (leb n most)
 
-pub months-before : (leap : Bool) (t : List ℕ) → all (monthRight leap t) 13 ≡ true → (m : ℕ) → m ≤ 12 →
-    (getD t m 0 ≡ daysOfMonths leap (m - 1)) × (getD t m 0 ≤ 335)
-months-before leap t e m h =
-    let r = both-true (eqb (getD t m 0) (daysOfMonths leap (m - 1))) _ (all-at (monthRight leap t) 13 e m (omega arith)) in
-    (eqb-true _ _ (r .0), leb-true _ _ (r .1))
+is-right : (n days most : ℕ) → isRight n days most ≡ true → (n ≡ days) × (n ≤ most)
+is-right n days most e = let r = both-true (eqb n days) _ e in (eqb-true _ _ (r .0), leb-true _ _ (r .1))
 
--- the closed form of the days of k years, and its bound
-abbrev yearRight : ℕ → Bool
-yearRight k = both (eqb (k * 365 + (k + 1) / 4) (daysOfYears k)) (leb (k * 365 + (k + 1) / 4) 39812)
+-- the days before a month of a common year: an even rise, less two from March on
+abbrev rise : ℕ → ℕ
+rise m = (m * 979 - 966) / 32
 
-pub years-before : (k : ℕ) → k < 110 → (k * 365 + (k + 1) / 4 ≡ daysOfYears k) × (k * 365 + (k + 1) / 4 ≤ 39812)
-unfolding daysOfYears leapYear
-years-before k h =
-    let r = both-true (eqb (k * 365 + (k + 1) / 4) (daysOfYears k)) _ (all-at yearRight 110 refl k h) in
-    (eqb-true _ _ (r .0), leb-true _ _ (r .1))
+abbrev januaryRight : ℕ → Bool
+januaryRight m = isRight (rise m) (daysOfMonths false (m - 1)) 334
+
+abbrev marchRight : ℕ → Bool
+marchRight m = either (leb m 2) (isRight (rise m - 2) (daysOfMonths false (m - 1)) 334)
+
+module _ (m : ℕ) where
+  pub before-march : m ≤ 2 → (rise m ≡ daysOfMonths false (m - 1)) × (rise m ≤ 334)
+  unfolding daysOfMonths daysInMonth
+  before-march h = is-right (rise m) (daysOfMonths false (m - 1)) 334 (all-at januaryRight 3 refl m (omega arith))
+
+  pub from-march : 2 < m → m ≤ 12 → (rise m - 2 ≡ daysOfMonths false (m - 1)) × (rise m - 2 ≤ 334)
+  unfolding daysOfMonths daysInMonth
+  from-march h g =
+      is-right (rise m - 2) (daysOfMonths false (m - 1)) 334 (rw (lt-leb m 2 h) at (all-at marchRight 13 refl m (omega arith)))
+
+-- one day more of a leap year stands before each month from March on
+abbrev leapRight : ℕ → Bool
+leapRight m = eqb (daysOfMonths true (m - 1)) (daysOfMonths false (m - 1) + pick (both (ltb 2 m) true) 1 0)
+
+abbrev commonRight : ℕ → Bool
+commonRight m = eqb (daysOfMonths false (m - 1)) (daysOfMonths false (m - 1) + pick (both (ltb 2 m) false) 1 0)
+
+pub leap-day : (leap : Bool) (m : ℕ) → m ≤ 12 →
+    daysOfMonths leap (m - 1) ≡ daysOfMonths false (m - 1) + pick (both (ltb 2 m) leap) 1 0
+unfolding daysOfMonths daysInMonth
+leap-day true m h = eqb-true _ _ (all-at leapRight 13 refl m (omega arith))
+leap-day false m h = eqb-true _ _ (all-at commonRight 13 refl m (omega arith))
+
+-- the days of k years, and those with the leap day of the year that follows
+abbrev yearsRight : ℕ → Bool
+yearsRight k = isRight (k * 365 + (k + 1) / 4) (daysOfYears k + 0) 39813
+
+abbrev leapsRight : ℕ → Bool
+leapsRight k = isRight (k * 365 + (k + 2) / 4) (daysOfYears k + pick (leapYear (1990 + k)) 1 0) 39813
+
+abbrev toMonth : ℕ → ℕ → ℕ
+toMonth y m = daysOfYears (y - 1990) + pick (both (ltb 2 m) (leapYear y)) 1 0
+
+module _ (y m : ℕ) (first : 1990 ≤ y) (last : y ≤ 2099) where
+  pub without-leap-day : m ≤ 2 →
+      ((y - 1990) * 365 + (y - 1990 + 1) / 4 ≡ toMonth y m) × ((y - 1990) * 365 + (y - 1990 + 1) / 4 ≤ 39813)
+  unfolding daysOfYears leapYear
+  without-leap-day h =
+      rw (le-ltb 2 m h) (is-right _ (daysOfYears (y - 1990) + 0) 39813 (all-at yearsRight 110 refl (y - 1990) (omega arith)))
+
+  pub with-leap-day : 2 < m →
+      ((y - 1990) * 365 + (y - 1990 + 2) / 4 ≡ toMonth y m) × ((y - 1990) * 365 + (y - 1990 + 2) / 4 ≤ 39813)
+  unfolding daysOfYears leapYear
+  with-leap-day h =
+      let r = is-right _ (daysOfYears (y - 1990) + pick (leapYear (1990 + (y - 1990))) 1 0) 39813 (all-at leapsRight 110 refl (y - 1990) (omega arith)) in
+      rw (lt-ltb 2 m h) (rw (add-sub-of-le first) at r)
 
 pub record Exists (d : Date) : Type 0 where
   pub firstYear : 1990 ≤ d .year
@@ -71,6 +113,38 @@ exists d e =
       firstDay = leb-true _ _ (r .0);
       lastDay = leb-true _ _ (r .1);
     }
+
+-- every month has 28 days
+abbrev monthLong : Bool → ℕ → Bool
+monthLong leap m = either (leb m 0) (leb 28 (daysInMonth leap m))
+
+month-long : (leap : Bool) (m : ℕ) → 1 ≤ m → m ≤ 12 → 28 ≤ daysInMonth leap m
+unfolding daysInMonth
+month-long true m h g = leb-true 28 _ (rw (lt-leb m 0 h) at (all-at (monthLong true) 13 refl m (omega arith)))
+month-long false m h g = leb-true 28 _ (rw (lt-leb m 0 h) at (all-at (monthLong false) 13 refl m (omega arith)))
+
+zero-month : (leap : Bool) (m : ℕ) → m < 1 → daysInMonth leap m ≡ 0
+unfolding daysInMonth
+zero-month leap m h = let z : m ≡ 0 = omega arith in rw z
+
+month-past : (leap : Bool) (m : ℕ) → 12 < m → daysInMonth leap m ≡ 0
+unfolding daysInMonth
+month-past leap m h = rw (lt-ltb 12 m h)
+
+-- a day up to the 28th is one of every month
+module _ (leap : Bool) (m k : ℕ) (e : both (leb 1 k) (leb k 28) ≡ true) where
+  early : (1 ≤ k) × (k ≤ 28)
+  early = let r = both-true (leb 1 k) _ e in (leb-true _ _ (r .0), leb-true _ _ (r .1))
+
+  pub early-day : both (leb 1 m) (leb m 12) ≡ both (leb 1 k) (leb k (daysInMonth leap m))
+  early-day = rw (le-leb 1 k (early .0)) (go (leb 1 m) (leb m 12) refl refl)
+    where
+      go : (a b : Bool) → leb 1 m ≡ a → leb m 12 ≡ b → both a b ≡ leb k (daysInMonth leap m)
+      go true true p q =
+          sym (le-leb k _ (le-trans (early .1) (month-long leap m (leb-true 1 m p) (leb-true m 12 q))))
+      go true false p q =
+          rw (month-past leap m (leb-false m 12 q)) (sym (lt-leb k 0 (early .0)))
+      go false b p q = rw (zero-month leap m (leb-false 1 m p)) (sym (lt-leb k 0 (early .0)))
 
 -- no month has more than 31 days
 monthShort : Bool → ℕ → Bool

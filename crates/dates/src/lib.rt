@@ -1,6 +1,9 @@
 // Calendar dates, calendar day numbers and study days (document 01, "Dates and records").
 ghost use mathlib.Core.Path.{_≡_};
-ghost use Prim.Native.Nat.{_-_, _≤_};
+ghost use mathlib.Core.Bool.{false};
+ghost use Prim.Native.Nat.{_+_, _-_, _≤_};
+ghost use lib.Dec.{ltb, leb};
+ghost use Rattle.laws.specs.Choice.{both, pick};
 ghost use Rattle.dates.specs.Calendar.{firstYear, lastYear, leapYear, daysInMonth, dateExists, daysOfYears, daysOfMonths};
 ghost use Rattle.dates.specs.Answers.{dayNumberValues, dayNumberOf, studyDayValues, studyDayOf};
 
@@ -31,13 +34,10 @@ const FIRST_YEAR: u16 = 1990;
 
 const LAST_YEAR: u16 = 2099;
 
+const SHORTEST_MONTH: u8 = 28;
+
 // The days of each month of a common year, January at 1.
 const DAYS: [u8; 13] = [0, 31, 28, 31, 30, 31, 30, 31, 31, 30, 31, 30, 31];
-
-// The days before each month, January at 1, of a common year and of a leap year.
-const BEFORE: [u16; 13] = [0, 0, 31, 59, 90, 120, 151, 181, 212, 243, 273, 304, 334];
-
-const BEFORE_LEAP: [u16; 13] = [0, 0, 31, 60, 91, 121, 152, 182, 213, 244, 274, 305, 335];
 
 fn leap_year(year: u16) -> bool
     ensures { λ r. ⌜ r ≡ leapYear year ⌝ }
@@ -59,32 +59,43 @@ fn days_in_month(year: u16, month: u8) -> u8
     DAYS[month as usize]
 }
 
+// Every month has the days of the shortest one, which spares most dates a look at their month's days.
+fn day_exists(year: u16, month: u8, day: u8) -> bool
+    ensures { λ r. ⌜ r ≡ both (leb 1 day) (leb day (daysInMonth (leapYear year) month)) ⌝ }
+{
+    if (1 <= day) & (day <= SHORTEST_MONTH) {
+        return (1 <= month) & (month <= 12);
+    }
+    1 <= day && day <= days_in_month(year, month)
+}
+
 pub fn date_exists(date: Date) -> bool
     ensures { λ r. ⌜ r ≡ dateExists date ⌝ }
 {
     FIRST_YEAR <= date.year
-        && (date.year <= LAST_YEAR
-            && (1 <= date.day && date.day <= days_in_month(date.year, date.month)))
+        && (date.year <= LAST_YEAR && day_exists(date.year, date.month, date.day))
 }
 
-fn days_before_month(leap: bool, month: u8) -> u16
-    requires { ⌜ month ≤ 12 ⌝ }
-    ensures { λ r. ⌜ (r ≡ daysOfMonths leap (month - 1)) × (r ≤ 335) ⌝ }
+// The days before a month of a common year: an even rise, two days too high from March on.
+fn days_before_month(month: u8) -> u32
+    requires { ⌜ (1 ≤ month) × (month ≤ 12) ⌝ }
+    ensures { λ r. ⌜ (r ≡ daysOfMonths false (month - 1)) × (r ≤ 334) ⌝ }
 {
-    if leap {
-        BEFORE_LEAP[month as usize]
-    } else {
-        BEFORE[month as usize]
-    }
+    let even = (month as u32 * 979 - 966) / 32;
+    if month <= 2 { even } else { even - 2 }
 }
 
-// Every fourth year from 1990 to 2099 is a leap year, 2000 among them.
-fn days_before_year(year: u16) -> u16
+// The days before a year, and from March on its own leap day. Every fourth year from 1990 to 2099 is a leap year, 2000 among them.
+fn days_before_year(year: u16, month: u8) -> u32
     requires { ⌜ (firstYear ≤ year) × (year ≤ lastYear) ⌝ }
-    ensures { λ r. ⌜ (r ≡ daysOfYears (year - firstYear)) × (r ≤ 39812) ⌝ }
+    ensures { λ r. ⌜ (r ≡ daysOfYears (year - firstYear) + pick (both (ltb 2 month) (leapYear year)) 1 0) × (r ≤ 39813) ⌝ }
 {
-    let years = year - FIRST_YEAR;
-    years * 365 + (years + 1) / 4
+    let years = (year - FIRST_YEAR) as u32;
+    if month <= 2 {
+        years * 365 + (years + 1) / 4
+    } else {
+        years * 365 + (years + 2) / 4
+    }
 }
 
 pub fn day_number(date: Date) -> DayNumberAnswer
@@ -93,9 +104,9 @@ pub fn day_number(date: Date) -> DayNumberAnswer
     if !date_exists(date) {
         return DayNumberAnswer::NoSuchDate;
     }
-    let years = days_before_year(date.year);
-    let months = days_before_month(leap_year(date.year), date.month);
-    DayNumberAnswer::Number(DayNumber(years + months + date.day as u16))
+    let years = days_before_year(date.year, date.month);
+    let months = days_before_month(date.month);
+    DayNumberAnswer::Number(DayNumber((years + months + date.day as u32) as u16))
 }
 
 // The only way from calendar dates to study days.

@@ -1,14 +1,17 @@
--- `dates::day_number` meets its contract: an existing date is in the range of both tables, and the sum is the definition's.
+-- `dates::day_number` meets its contract: an existing date is in the range of both closed forms, and the sum is the definition's.
 -- Assumes nothing.
 use mathlib.Core.Path.{_≡_, sym, _∙_}
 use mathlib.Core.Bool.{Bool, not, true, false}
 use Prim.Native.Nat.{ℕ, _+_, _-_, _≤_}
+use native.Mathlib.Omega.{arith}
+use lib.Dec.{ltb}
 use borrow.Author.Needs.{needs}
 use borrow.Author.Tests.{not-true, not-false}
+use Rattle.laws.specs.Choice.{both, pick}
 use Rattle.dates.specs.Calendar.{leapYear, dateExists, daysOfYears, daysOfMonths, dayNumber}
 use Rattle.dates.specs.Answers.{counted, refused, dayNumberOf}
 use Rattle.dates.specs.declared.Date.{Date}
-use Rattle.dates.proofs.Days.{exists}
+use Rattle.dates.proofs.Days.{exists, leap-day}
 use Rattle.dates.proofs.day_number.Statement.{statement}
 use Rattle.dates.proofs.day_number.Tie as tie
 
@@ -21,13 +24,17 @@ module _ (d : Date) (b : Bool) (e : b ≡ dateExists d) (t : not b ≡ false) wh
   year-in-range : (1990 ≤ d .year) × (d .year ≤ 2099)
   year-in-range = let v = exists d (sym e ∙ not-false b t) in (v .firstYear, v .lastYear)
 
-  month-in-range : d .month ≤ 12
-  month-in-range = exists d (sym e ∙ not-false b t) .lastMonth
+  month-in-range : (1 ≤ d .month) × (d .month ≤ 12)
+  month-in-range = let v = exists d (sym e ∙ not-false b t) in (v .firstMonth, v .lastMonth)
 
-  number : (leap : Bool) (years months : ℕ) → leap ≡ leapYear (d .year) → (years ≡ daysOfYears (d .year - 1990)) × (years ≤ 39812) →
-      (months ≡ daysOfMonths leap (d .month - 1)) × (months ≤ 335) → counted (years + months + d .day) ≡ dayNumberOf d
+  number : (years months : ℕ) →
+      (years ≡ daysOfYears (d .year - 1990) + pick (both (ltb 2 (d .month)) (leapYear (d .year))) 1 0) × (years ≤ 39813) →
+      (months ≡ daysOfMonths false (d .month - 1)) × (months ≤ 334) → counted (years + months + d .day) ≡ dayNumberOf d
   unfolding dayNumberOf dayNumber
-  number leap years months l y m = rw (← e, not-false b t, y .0, m .0, l)
+  number years months y m =
+      let l = leap-day (leapYear (d .year)) (d .month) (month-in-range .1) in
+      let n : years + months ≡ daysOfYears (d .year - 1990) + daysOfMonths (leapYear (d .year)) (d .month - 1) = omega arith in
+      rw (← e, not-false b t, n)
 
 pub day-number-spec : {M : Type 1} → statement M
 day-number-spec =
@@ -36,8 +43,8 @@ day-number-spec =
     (λ c κs. search needs)
     (λ c. search no-date)
     (λ c κs. year-in-range _ _ (c .before .date-exists .ensures) (c .if1 .left))
-    (λ c κs. search needs)
-    (λ c κs. month-in-range _ _ (c .before .before .before .date-exists .ensures) (c .before .before .if1 .left))
+    (λ c κs. month-in-range _ _ (c .before .before .date-exists .ensures) (c .before .if1 .left))
+    (λ c. search needs)
     (λ c. search needs)
     (λ c. search needs)
     (λ c. search needs)
