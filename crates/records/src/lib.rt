@@ -1,8 +1,11 @@
 // The record value and its own refusals, 3 to 5 (document 01, "Dates and records" and "Where a call stops").
 use dates::Date;
 ghost use mathlib.Core.Path.{_≡_};
+ghost use Prim.Native.Nat.{ℕ};
+ghost use Rattle.laws.specs.Choice.{either, pick};
 ghost use Rattle.records.specs.Form.{dateOf};
-ghost use Rattle.records.specs.Refusals.{withoutDisease, outsideLimits, notZero, checkNumber, refusalOfRead, refusalOf};
+ghost use Rattle.records.specs.Refusals.{largeMeasured, sizedUnmeasured, someTarget, withoutDisease, outsideLimits, notZero, checkNumber, refusalOfRead, refusalOf};
+ghost use Rattle.records.specs.declared.Entry.the-variants.{Baseline};
 
 mod targets; // targets.rt: what some of the five targets breaks
 
@@ -76,37 +79,62 @@ fn without_disease(b: BaselineEntry) -> bool
     b.count == 0 && !b.nontarget
 }
 
-// Refusal 4.
-fn outside_limits(entry: Entry, marks: [bool; 5], sizes: [u16; 5]) -> bool
-    ensures { λ r. ⌜ r ≡ outsideLimits entry marks sizes ⌝ }
+// Refusal 4 of a baseline.
+fn outside_limits(b: BaselineEntry, marks: [bool; 5], sizes: [u16; 5]) -> bool
+    ensures { λ r. ⌜ r ≡ outsideLimits (Baseline b) marks sizes ⌝ }
 {
-    match entry {
-        Entry::Baseline(b) => {
-            b.assessed
-                && (MOST_TARGETS < b.count
-                    || (without_disease(b) || targets::some_wrong_size(b.count, marks, sizes)))
-        }
-        Entry::Visit(_) => targets::some_large_measured(marks, sizes),
-        Entry::Therapy(_) => false,
-        Entry::Death(_) => false,
+    b.assessed
+        && (MOST_TARGETS < b.count
+            || (without_disease(b) || targets::some_wrong_size(b.count, marks, sizes)))
+}
+
+// Refusal 5 of a baseline.
+fn not_zero(b: BaselineEntry, marks: [bool; 5], sizes: [u16; 5]) -> bool
+    ensures { λ r. ⌜ r ≡ notZero (Baseline b) marks sizes ⌝ }
+{
+    if b.assessed {
+        targets::some_set_beyond(b.count, marks, sizes)
+    } else {
+        b.nontarget || (0 < b.count || targets::some_set_beyond(0, marks, sizes))
     }
 }
 
-// Refusal 5.
-fn not_zero(entry: Entry, marks: [bool; 5], sizes: [u16; 5]) -> bool
-    ensures { λ r. ⌜ r ≡ notZero entry marks sizes ⌝ }
+fn first_of(outside: bool, set: bool) -> CheckAnswer
+    ensures { λ c. ⌜ checkNumber c ≡ pick outside 4 (pick set 5 0) ⌝ }
+{
+    if outside {
+        return CheckAnswer::OutsideLimits;
+    }
+    if set {
+        return CheckAnswer::NotZero;
+    }
+    CheckAnswer::Passed
+}
+
+// One test passes most visits: a target that is too large for its mark breaks 4 where it is measured, and 5 where it is not.
+fn check_visit(marks: [bool; 5], sizes: [u16; 5], spare: bool) -> CheckAnswer
+    ensures { λ c. ⌜ checkNumber c ≡ pick (someTarget (λ (i : ℕ). largeMeasured) marks sizes) 4 (pick (either spare (someTarget (λ (i : ℕ). sizedUnmeasured) marks sizes)) 5 0) ⌝ }
+{
+    if targets::some_beyond_mark(marks, sizes) {
+        return first_of(targets::some_large_measured(marks, sizes), true);
+    }
+    first_of(false, spare)
+}
+
+// Refusals 4 and 5, with a spare bit that is set beside them.
+fn check_fields(entry: Entry, marks: [bool; 5], sizes: [u16; 5], spare: bool) -> CheckAnswer
+    ensures { λ c. ⌜ checkNumber c ≡ pick (outsideLimits entry marks sizes) 4 (pick (either spare (notZero entry marks sizes)) 5 0) ⌝ }
 {
     match entry {
         Entry::Baseline(b) => {
-            if b.assessed {
-                targets::some_set_beyond(b.count, marks, sizes)
-            } else {
-                b.nontarget || (0 < b.count || targets::some_set_beyond(0, marks, sizes))
-            }
+            first_of(
+                outside_limits(b, marks, sizes),
+                spare | not_zero(b, marks, sizes),
+            )
         }
-        Entry::Visit(_) => targets::some_sized_unmeasured(marks, sizes),
-        Entry::Therapy(_) => targets::some_set_beyond(0, marks, sizes),
-        Entry::Death(_) => targets::some_set_beyond(0, marks, sizes),
+        Entry::Visit(_) => check_visit(marks, sizes, spare),
+        Entry::Therapy(_) => first_of(false, spare | targets::some_set_beyond(0, marks, sizes)),
+        Entry::Death(_) => first_of(false, spare | targets::some_set_beyond(0, marks, sizes)),
     }
 }
 
@@ -124,16 +152,7 @@ pub fn check_read(r: Record, unlawful: bool, spare: bool) -> CheckAnswer
     if unlawful {
         return CheckAnswer::OutsideLimits;
     }
-    if outside_limits(entry, marks, sizes) {
-        return CheckAnswer::OutsideLimits;
-    }
-    if spare {
-        return CheckAnswer::NotZero;
-    }
-    if not_zero(entry, marks, sizes) {
-        return CheckAnswer::NotZero;
-    }
-    CheckAnswer::Passed
+    check_fields(entry, marks, sizes, spare)
 }
 
 pub fn check(r: Record) -> CheckAnswer

@@ -1,8 +1,8 @@
 // What some of the five targets breaks, by its place, its mark and its size.
 ghost use mathlib.Core.Path.{_≡_};
 ghost use Prim.Native.Nat.{ℕ};
-ghost use Rattle.laws.specs.Choice.{either};
-ghost use Rattle.records.specs.Refusals.{leastSize, wrongSize, largeMeasured, setBeyond, sizedUnmeasured, someTarget};
+ghost use Rattle.laws.specs.Choice.{either, pick};
+ghost use Rattle.records.specs.Refusals.{largestSize, leastSize, wrongSize, largeMeasured, setBeyond, sizedUnmeasured, someTarget};
 
 const LARGEST_SIZE: u16 = 500;
 
@@ -35,10 +35,17 @@ fn set_beyond(count: u8, i: u8, mark: bool, size: u16) -> bool
     count <= i && (mark || 0 < size)
 }
 
-fn sized_unmeasured(measured: bool, size: u16) -> bool
-    ensures { λ r. ⌜ r ≡ sizedUnmeasured measured size ⌝ }
+fn largest_size(measured: bool) -> u16
+    ensures { λ r. ⌜ r ≡ pick measured largestSize 0 ⌝ }
 {
-    !measured && 0 < size
+    if measured { LARGEST_SIZE } else { 0 }
+}
+
+// A size above 500 where it is measured, and above 0 where it is not.
+fn beyond_mark(measured: bool, size: u16) -> bool
+    ensures { λ r. ⌜ r ≡ either (largeMeasured measured size) (sizedUnmeasured measured size) ⌝ }
+{
+    largest_size(measured) < size
 }
 
 // Joined without a branch, for speed.
@@ -84,14 +91,14 @@ pub(crate) fn some_set_beyond(count: u8, marks: [bool; 5], sizes: [u16; 5]) -> b
     )
 }
 
-pub(crate) fn some_sized_unmeasured(marks: [bool; 5], sizes: [u16; 5]) -> bool
-    ensures { λ r. ⌜ r ≡ someTarget (λ (i : ℕ). sizedUnmeasured) marks sizes ⌝ }
+pub(crate) fn some_beyond_mark(marks: [bool; 5], sizes: [u16; 5]) -> bool
+    ensures { λ r. ⌜ r ≡ either (someTarget (λ (i : ℕ). largeMeasured) marks sizes) (someTarget (λ (i : ℕ). sizedUnmeasured) marks sizes) ⌝ }
 {
     any_of_five(
-        sized_unmeasured(marks[0], sizes[0]),
-        sized_unmeasured(marks[1], sizes[1]),
-        sized_unmeasured(marks[2], sizes[2]),
-        sized_unmeasured(marks[3], sizes[3]),
-        sized_unmeasured(marks[4], sizes[4]),
+        beyond_mark(marks[0], sizes[0]),
+        beyond_mark(marks[1], sizes[1]),
+        beyond_mark(marks[2], sizes[2]),
+        beyond_mark(marks[3], sizes[3]),
+        beyond_mark(marks[4], sizes[4]),
     )
 }

@@ -1,7 +1,7 @@
 -- `records::check_read` meets its contract: `search` finds what the tests said.
 -- Assumes nothing.
 use borrow.Author.Needs.{needs}
-use Rattle.records.proofs.Answers.{no-date, no-status, outside, spare-set, not-zero, passed}
+use Rattle.records.proofs.Answers.{no-date, no-status, by-fields}
 use Rattle.records.proofs.check_read.Statement.{statement}
 use Rattle.records.proofs.check_read.Tie as tie
 
@@ -14,8 +14,4 @@ check-read-spec =
     (λ c. search no-date)
     (λ c. search no-status)
     (λ c κs. search needs)
-    (λ c. search outside)
-    (λ c. search spare-set)
-    (λ c κs. search needs)
-    (λ c. search not-zero)
-    (λ c. search passed))
+    (λ c. search by-fields))

@@ -8,25 +8,15 @@ use Rattle.records.proofs.not_zero.Tie as tie
 
 -- a count that passed its test is 0: stated first, since a count passed over is wrong here
 missing-baseline : tie.Need-returns-4
-missing-baseline c = unfold notZero in rw (c .before .before .before .before .before .before .entry .given .1, c .before .before .before .before .if1 .left, c .before .before .before .if2 .left) (search (tests, c .some-set-beyond2 .ensures))
+missing-baseline c = unfold notZero in rw (c .before .before .before .before .if1 .left, c .before .before .before .if2 .left) (search (tests, c .some-set-beyond2 .ensures))
 
 pub not-zero-spec : {M : Type 1} → statement M
 not-zero-spec =
     tie.close
     (tie.spec
-    (λ c. search needs)
     (λ c κs. search needs)
     (λ c κs. search needs)
-    (λ c. search needs)
-    (λ c κs. search needs)
-    (λ c. search needs)
-    (λ c κs. search needs)
-    (λ c. search needs)
-    (λ c κs. search needs)
-    (λ c. unfold notZero in rw (c .before .before .before .entry .given .1, c .before .if1 .taken) (c .some-set-beyond .ensures))
-    (λ c. unfold notZero in rw (c .before .before .before .entry .given .1, c .before .if1 .left, c .if2 .taken))
-    (λ c. unfold notZero in rw (c .before .before .before .before .before .entry .given .1, c .before .before .before .if1 .left, c .before .before .if2 .left) (search tests))
-    missing-baseline
-    (λ c. unfold notZero in rw (c .before .enum-told .given .1) (c .some-sized-unmeasured .ensures))
-    (λ c. unfold notZero in rw (c .before .enum-told2 .given .1) (c .some-set-beyond3 .ensures))
-    (λ c. unfold notZero in rw (c .before .enum-told3 .given .1) (c .some-set-beyond4 .ensures)))
+    (λ c. unfold notZero in rw (c .before .if1 .taken) (c .some-set-beyond .ensures))
+    (λ c. unfold notZero in rw (c .before .if1 .left, c .if2 .taken))
+    (λ c. unfold notZero in rw (c .before .before .before .if1 .left, c .before .before .if2 .left) (search tests))
+    missing-baseline)

@@ -8,23 +8,15 @@ use Rattle.records.proofs.outside_limits.Tie as tie
 
 -- a count that passed its test is at most the most: stated first, since a count too many is wrong here
 counted : tie.Need-returns-3
-counted c = unfold outsideLimits withoutDisease in rw (c .before .before .before .before .before .before .before .entry .given .1, c .before .before .before .before .before .if1 .taken) (search (tests, c .some-wrong-size .ensures, ← c .before .before .without-disease .ensures, c .before .if3 .left))
+counted c = unfold outsideLimits withoutDisease in rw (c .before .before .before .before .before .if1 .taken) (search (tests, c .some-wrong-size .ensures, ← c .before .before .without-disease .ensures, c .before .if3 .left))
 
 pub outside-limits-spec : {M : Type 1} → statement M
 outside-limits-spec =
     tie.close
     (tie.spec
-    (λ c. search needs)
     (λ c κs. search needs)
     (λ c κs. search needs)
-    (λ c. search needs)
-    (λ c κs. search needs)
-    (λ c. search needs)
-    (λ c. search needs)
-    (λ c. unfold outsideLimits withoutDisease in rw (c .before .before .before .before .entry .given .1, c .before .before .if1 .taken) (search tests))
-    (λ c. unfold outsideLimits withoutDisease in rw (c .before .before .before .before .before .before .entry .given .1, c .before .before .before .before .if1 .taken) (search (tests, ← c .before .without-disease .ensures, c .if3 .taken)))
+    (λ c. unfold outsideLimits withoutDisease in rw (c .before .before .if1 .taken) (search tests))
+    (λ c. unfold outsideLimits withoutDisease in rw (c .before .before .before .before .if1 .taken) (search (tests, ← c .before .without-disease .ensures, c .if3 .taken)))
     counted
-    (λ c. unfold outsideLimits withoutDisease in rw (c .before .before .entry .given .1, c .if1 .left))
-    (λ c. unfold outsideLimits withoutDisease in rw (c .before .enum-told .given .1) (c .some-large-measured .ensures))
-    (λ c. unfold outsideLimits withoutDisease in rw (c .enum-told2 .given .1))
-    (λ c. unfold outsideLimits withoutDisease in rw (c .enum-told3 .given .1)))
+    (λ c. unfold outsideLimits withoutDisease in rw (c .if1 .left)))
