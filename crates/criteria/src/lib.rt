@@ -17,24 +17,26 @@ pub struct Earlier {
     pub nadir: u32,
 }
 
+// In the order of the grid's rows, so that a row is found without a look-up; PD, which has none, is last.
 pub enum Target {
-    // No targets.
-    NA,
     CR,
-    PD,
-    // Not evaluable.
-    NE,
     PR,
     SD,
+    // Not evaluable.
+    NE,
+    // No targets.
+    NA,
+    PD,
 }
 
+// In the order of the grid's codes.
 pub enum Overall {
     CR,
     PR,
     SD,
-    PD,
     // Not evaluable.
     NE,
+    PD,
 }
 
 // Tenths of a percent. A decrease is at least one tenth.

@@ -21,6 +21,10 @@ pub both-with-true : (a : Bool) → both a true ≡ a
 both-with-true true = refl
 both-with-true false = refl
 
+pub both-with-false : (a : Bool) → both a false ≡ false
+both-with-false true = refl
+both-with-false false = refl
+
 pub either-with-true : (a : Bool) → either a true ≡ true
 either-with-true true = refl
 either-with-true false = refl

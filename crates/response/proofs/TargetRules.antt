@@ -5,11 +5,11 @@ use mathlib.Core.Bool.{Bool, true, false, not}
 use mathlib.Core.List.{List}
 use Prim.Native.Nat.{ℕ}
 use native.Mathlib.Omega.{arith}
-use lib.Dec.{eqb, leb}
+use lib.Dec.{eqb, ltb, leb}
 use lib.ListN.{getD}
-use borrow.Author.Tests.{eqb-true, le-leb, eq-eqb, ne-eqb}
+use borrow.Author.Tests.{eqb-true, ltb-true, not-true, le-leb, lt-leb, eq-eqb, ne-eqb}
 use Rattle.laws.specs.Choice.{both, either}
-use Rattle.laws.proofs.Tests.{both-with-true, either-with-false}
+use Rattle.laws.proofs.Tests.{both-true, both-with-false, either-with-false}
 use Rattle.criteria.specs.Words.{CR, PR, SD, PD, NE, NA}
 use Rattle.criteria.specs.Sums.{measuredSum, allMeasured}
 use Rattle.criteria.specs.Targets.{normalNode, gone, allGone, grown, shrunk, targetAnswer}
@@ -17,7 +17,7 @@ use Rattle.criteria.specs.declared.BaselineDisease.{BaselineDisease}
 use Rattle.criteria.specs.declared.Earlier.{Earlier}
 
 -- a target that is normal or gone, as the code tests it
-gone-as-tested : (node : Bool) (size : ℕ) → either (eqb size 0) (both node (leb size normalNode)) ≡ gone node size
+pub gone-as-tested : (node : Bool) (size : ℕ) → either (eqb size 0) (both node (leb size normalNode)) ≡ gone node size
 gone-as-tested true size = go (eqb size 0) refl
   where
     go : (z : Bool) → eqb size 0 ≡ z → either z (leb size normalNode) ≡ leb size normalNode
@@ -25,22 +25,13 @@ gone-as-tested true size = go (eqb size 0) refl
     go false q = refl
 gone-as-tested false size = either-with-false (eqb size 0)
 
-abbrev testedAt : ℕ → List Bool → List ℕ → ℕ → Bool
-testedAt count nodes sizes i = either (leb count i) (either (eqb (getD sizes i 0) 0) (both (getD nodes i false) (leb (getD sizes i 0) normalNode)))
-
-pub all-gone-as-tested : (count : ℕ) (nodes : List Bool) (sizes : List ℕ) →
-    both (testedAt count nodes sizes 4) (both (testedAt count nodes sizes 3) (both (testedAt count nodes sizes 2)
-    (both (testedAt count nodes sizes 1) (testedAt count nodes sizes 0)))) ≡ allGone count nodes sizes
+-- a first target that is not gone decides
+pub first-not-gone : (count : ℕ) (nodes : List Bool) (sizes : List ℕ) (g : Bool) → g ≡ gone (getD nodes 0 false) (getD sizes 0 0) →
+    both (ltb 0 count) (not g) ≡ true → false ≡ allGone count nodes sizes
 unfolding allGone
-all-gone-as-tested count nodes sizes =
-    rw (
-      gone-as-tested (getD nodes 0 false) (getD sizes 0 0),
-      gone-as-tested (getD nodes 1 false) (getD sizes 1 0),
-      gone-as-tested (getD nodes 2 false) (getD sizes 2 0),
-      gone-as-tested (getD nodes 3 false) (getD sizes 3 0),
-      gone-as-tested (getD nodes 4 false) (getD sizes 4 0),
-      both-with-true,
-    )
+first-not-gone count nodes sizes g ge h =
+    let p = both-true (ltb 0 count) (not g) h in
+    rw (lt-leb count 0 (ltb-true 0 count (p .0)), ← ge, not-true g (p .1)) (simp both-with-false)
 
 module _ (b : BaselineDisease) (e : Earlier) (measured : List Bool) (sizes : List ℕ) where
   pub no-targets : b .count ≡ 0 → NA ≡ targetAnswer b e measured sizes

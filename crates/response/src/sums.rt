@@ -66,12 +66,16 @@ pub(crate) fn baseline_sum(count: u8, sizes: [u16; 5]) -> u32
     )
 }
 
-// Joined without a branch, for speed.
+// By the count, so that the targets beyond it cost nothing.
 pub(crate) fn all_measured(count: u8, measured: [bool; 5]) -> bool
     ensures { λ r. ⌜ r ≡ allMeasured count measured ⌝ }
 {
-    ((count <= 4) | measured[4])
-        & (((count <= 3) | measured[3])
-            & (((count <= 2) | measured[2])
-                & (((count <= 1) | measured[1]) & ((count <= 0) | measured[0]))))
+    match count {
+        0 => true,
+        1 => measured[0],
+        2 => measured[1] & measured[0],
+        3 => measured[2] & (measured[1] & measured[0]),
+        4 => measured[3] & (measured[2] & (measured[1] & measured[0])),
+        _ => measured[4] & (measured[3] & (measured[2] & (measured[1] & measured[0]))),
+    }
 }

@@ -7,7 +7,7 @@ ghost use mathlib.Core.Bool.{Bool};
 ghost use mathlib.Core.List.{List};
 ghost use Rattle.criteria.specs.Words.{targetWord};
 ghost use Rattle.criteria.specs.Sums.{measuredSum, allMeasured};
-ghost use Rattle.criteria.specs.Targets.{allGone, grown, shrunk, targetAnswer};
+ghost use Rattle.criteria.specs.Targets.{gone, allGone, grown, shrunk, targetAnswer};
 
 // The short axis in millimetres up to which a node is normal.
 const NORMAL_NODE: u16 = 9;
@@ -20,15 +20,25 @@ const GROWN_TO_FIFTHS: u64 = 6;
 // A partial response: tenths of the baseline sum, which is 30 % less.
 const PARTIAL_TENTHS: u64 = 7;
 
-// Every node is normal and every other target gone; joined without a branch, for speed.
+// A node is normal, any other target gone.
+fn is_gone(node: bool, size: u16) -> bool
+    ensures { λ r. ⌜ r ≡ gone node size ⌝ }
+{
+    (size == 0) | (node & (size <= NORMAL_NODE))
+}
+
+// The first target decides most visits; the others are joined without a branch, for speed.
 fn all_gone(count: u8, nodes: [bool; 5], sizes: [u16; 5]) -> bool
     ensures { λ r. ⌜ r ≡ allGone count nodes sizes ⌝ }
 {
-    ((count <= 4) | ((sizes[4] == 0) | (nodes[4] & (sizes[4] <= NORMAL_NODE))))
-        & (((count <= 3) | ((sizes[3] == 0) | (nodes[3] & (sizes[3] <= NORMAL_NODE))))
-            & (((count <= 2) | ((sizes[2] == 0) | (nodes[2] & (sizes[2] <= NORMAL_NODE))))
-                & (((count <= 1) | ((sizes[1] == 0) | (nodes[1] & (sizes[1] <= NORMAL_NODE))))
-                    & ((count <= 0) | ((sizes[0] == 0) | (nodes[0] & (sizes[0] <= NORMAL_NODE)))))))
+    let first = is_gone(nodes[0], sizes[0]);
+    if (0 < count) & !first {
+        return false;
+    }
+    ((count <= 4) | is_gone(nodes[4], sizes[4]))
+        & (((count <= 3) | is_gone(nodes[3], sizes[3]))
+            & (((count <= 2) | is_gone(nodes[2], sizes[2]))
+                & (((count <= 1) | is_gone(nodes[1], sizes[1])) & ((count <= 0) | first))))
 }
 
 fn has_grown(nadir: u32, sum: u32) -> bool

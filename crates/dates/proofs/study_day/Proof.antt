@@ -7,7 +7,8 @@ use native.Mathlib.Omega.{arith}
 use lib.Dec.{leb}
 use borrow.Author.Needs.{needs}
 use borrow.Author.Tests.{le-leb, lt-leb}
-use Rattle.laws.specs.Choice.{both, pick}
+use Rattle.laws.specs.Choice.{pick}
+use Rattle.laws.proofs.Tests.{both-with-false}
 use Rattle.dates.specs.Calendar.{dateExists, dayNumber}
 use Rattle.dates.specs.Answers.{Counted, counted, refused, dayNumberValues, dayNumberOf, studyDayOf}
 use Rattle.dates.specs.declared.Date.{Date}
@@ -39,10 +40,6 @@ known d a n e p = go (dateExists d) (rw p at e)
     go true q = (refl, ap (λ (x : Counted). x .day) q)
     go false q = absurd (not-refused (n .0) q)
 
-both-false : (a : Bool) → both a false ≡ false
-both-false true = refl
-both-false false = refl
-
 no-date : (d r : Date) (a : DayNumberAnswer) → dayNumberValues a ≡ dayNumberOf d → a ≡ N.NoSuchDate → refused 3 ≡ studyDayOf d r
 unfolding studyDayOf
 no-date d r a e p = rw (unknown d a e p)
@@ -50,7 +47,7 @@ no-date d r a e p = rw (unknown d a e p)
 no-randomisation : (d r : Date) (b : DayNumberAnswer) → dayNumberValues b ≡ dayNumberOf r → b ≡ N.NoSuchDate →
     refused 3 ≡ studyDayOf d r
 unfolding studyDayOf
-no-randomisation d r b f q = rw (unknown r b f q, both-false (dateExists d))
+no-randomisation d r b f q = rw (unknown r b f q, both-with-false (dateExists d))
 
 -- the answer where both dates have a day number
 module _ (d r : Date) (a b : DayNumberAnswer) (n m : DayNumber) (e : dayNumberValues a ≡ dayNumberOf d) (p : a ≡ N.Number n)
