@@ -1,23 +1,28 @@
 -- What reading and writing answer, from what the code found.
 -- Assumes nothing.
-use mathlib.Core.Path.{_≡_, sym, _∙_, ap}
-use mathlib.Core.Bool.{false}
+use mathlib.Core.Path.{_≡_, refl, sym, _∙_, ap}
+use mathlib.Core.Bool.{Bool, true, false, not}
 use mathlib.Core.List.{List, _++_}
 use Prim.Native.Nat.{ℕ, suc, _≤_, _<_}
 use native.Mathlib.Omega.{arith}
 use lib.Dec.{leb}
 use lib.ListN.{length, drop}
 use borrow.Author.Tests.{eq-eqb, ne-eqb, lt-ltb, le-ltb, le-leb, lt-leb}
-use Rattle.laws.specs.Choice.{both}
+use Rattle.laws.specs.Choice.{both, either, pick}
 use Rattle.packing.specs.Layout.{AreBytes}
-use Rattle.records.specs.Form.{Five}
-use Rattle.records.specs.Refusals.{checkNumber, refusalOf}
+use Rattle.dates.specs.Calendar.{dateExists}
+use Rattle.dates.specs.declared.Date.{Date}
+use Rattle.records.specs.Form.{dateOf, Five}
+use Rattle.records.specs.Refusals.{checkNumber, largeMeasured, sizedUnmeasured, someTarget, outsideLimits, notZero, refusalOfRead, refusalOf}
+use Rattle.records.specs.declared.Entry.{Entry}
+use Rattle.records.specs.declared.Entry.the-variants as E
+use Rattle.records.specs.declared.VisitEntry.{VisitEntry}
 use Rattle.records.specs.declared.Record.{Record}
 use Rattle.records.specs.declared.CheckAnswer.{CheckAnswer}
 use Rattle.records.specs.declared.CheckAnswer.the-variants as C
 use Rattle.codec.specs.Bytes.{recordLength, bytesNumber, bytesOf}
 use Rattle.codec.specs.Fields.{fieldAt}
-use Rattle.codec.specs.Reading.{readNumber, rawIn, refusalOfRaw, refusalOfNumber, refusalOfBytes, blank, recordOfBytes, Judged, Reads}
+use Rattle.codec.specs.Reading.{readNumber, visitIn, rawIn, refusalOfRaw, refusalOfNumber, refusalOfBytes, blank, recordOfBytes, Judged, Reads}
 use Rattle.codec.specs.Writing.{writeNumber, refusalOfWrite, outputOf, Writes}
 use Rattle.codec.specs.declared.Raw.{Raw}
 use Rattle.codec.specs.declared.ReadAnswer.the-variants as R
@@ -42,11 +47,40 @@ module _ (w : Raw) (a : CheckAnswer) (x : ReadResult) (e : checkNumber a ≡ ref
   pub judged-not-zero : a ≡ C.NotZero → (x .answer ≡ R.NotZero) × (x .found ≡ blank) → Judged w x
   judged-not-zero p q = judged-refused 4 (ap checkNumber p) (ap readNumber (q .0)) (q .1)
 
-pub judged-passed : (w : Raw) (a : CheckAnswer) → checkNumber a ≡ refusalOfRaw w → a ≡ C.Passed →
-    Judged w (record { answer = R.Done; found = w .read })
-judged-passed w a e p =
+pub judged-passed : (w : Raw) (a : CheckAnswer) (r : Record) → checkNumber a ≡ refusalOfRaw w → r ≡ w .read → a ≡ C.Passed →
+    Judged w (record { answer = R.Done; found = r })
+judged-passed w a r e f p =
     let q : refusalOfRaw w ≡ 0 = sym e ∙ ap checkNumber p in
-    record { answer = sym q; found = rw q }
+    record { answer = sym q; found = rw q f }
+
+-- ---- judging a visit
+
+module _ (v : VisitEntry) (e : Entry) (h : e ≡ E.Visit v) (marks : List Bool) (sizes : List ℕ) where
+  visit-limits : outsideLimits e marks sizes ≡ someTarget (λ (i : ℕ). largeMeasured) marks sizes
+  unfolding outsideLimits
+  visit-limits = rw h
+
+  visit-zeros : notZero e marks sizes ≡ someTarget (λ (i : ℕ). sizedUnmeasured) marks sizes
+  unfolding notZero
+  visit-zeros = rw h
+
+module _ (n : ℕ) (w : Raw) (we : w ≡ visitIn n) (d : Date) (de : d ≡ dateOf (w .read .entry)) (b : Bool) (be : b ≡ dateExists d) where
+  pub visit-no-date : not b ≡ true → (x : ReadResult) → (x .answer ≡ R.NoSuchDate) × (x .found ≡ blank) → Judged (visitIn n) x
+  unfolding refusalOfRead
+  visit-no-date h x q =
+      let r : 3 ≡ refusalOfRaw w = rw (← de, ← be, h) in
+      rw (← we) (judged-no-date w C.NoSuchDate x r refl q)
+
+  module _ (h : not b ≡ false) (a : CheckAnswer)
+      (ae : checkNumber a ≡ pick (either (w .unlawful) (someTarget (λ (i : ℕ). largeMeasured) (w .read .marks) (w .read .sizes))) 4 (pick (either (w .spare) (someTarget (λ (i : ℕ). sizedUnmeasured) (w .read .marks) (w .read .sizes))) 5 0)) where
+    visit-refusal : checkNumber a ≡ refusalOfRaw w
+    unfolding refusalOfRead visitIn
+    visit-refusal =
+        let e : w .read .entry ≡ E.Visit _ = ap (λ (r : Raw). r .read .entry) we in
+        rw (← de, ← be, h, visit-limits _ (w .read .entry) e (w .read .marks) (w .read .sizes), visit-zeros _ (w .read .entry) e (w .read .marks) (w .read .sizes)) ae
+
+    pub visit-judged : (x : ReadResult) → ((u : Raw) → checkNumber a ≡ refusalOfRaw u → w .read ≡ u .read → Judged u x) → Judged (visitIn n) x
+    visit-judged x j = rw (← we) (j w visit-refusal refl)
 
 -- ---- reading
 
@@ -76,6 +110,10 @@ module _ (s : List ℕ) (x : ReadResult) (b : AreBytes s) where
         let q : refusalOfBytes s ≡ refusalOfRaw w =
         rw (eq-eqb (length s) recordLength l, ← ke, le-leb 1 kind h, le-leb kind 4 g, we) in
         record { answer = j .answer ∙ sym q; found = j .found ∙ rw (q, ← ke, we); octets = b }
+
+pub visit-raw : (kind n : ℕ) → kind ≡ 2 → visitIn n ≡ rawIn kind n
+unfolding rawIn
+visit-raw kind n e = rw e
 
 -- ---- writing
 

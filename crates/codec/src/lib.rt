@@ -2,7 +2,11 @@
 use records::CheckAnswer;
 use records::Record;
 ghost use mathlib.Core.Path.{_≡_};
-ghost use Rattle.codec.specs.Reading.{blank, Judged, Reads};
+ghost use lib.ListN.{length};
+ghost use Rattle.records.specs.Refusals.{checkNumber};
+ghost use Rattle.codec.specs.Bytes.{recordLength, bytesNumber};
+ghost use Rattle.codec.specs.Reading.{visitIn, refusalOfRaw, blank, Judged, Reads};
+ghost use Rattle.codec.specs.declared.Raw.{Raw};
 ghost use Rattle.codec.specs.Writing.{Writes};
 
 mod fields; // fields.rt: the bits of one field
@@ -53,12 +57,11 @@ fn refused(answer: ReadAnswer) -> ReadResult
     }
 }
 
-// The record, or the first of 3 to 5 that meets it.
-fn judged(raw: Raw) -> ReadResult
-    ensures { λ x. ⌜ Judged raw x ⌝ }
+// A record that was read, by what its own refusals said of it.
+fn answered(answer: CheckAnswer, found: Record) -> ReadResult
+    ensures { λ x. ⌜ ((w : Raw) → checkNumber answer ≡ refusalOfRaw w → found ≡ w .read → Judged w x) ⌝ }
 {
-    let found = raw.read;
-    match records::check_read(found, raw.unlawful, raw.spare) {
+    match answer {
         CheckAnswer::NoSuchDate => refused(ReadAnswer::NoSuchDate),
         CheckAnswer::OutsideLimits => refused(ReadAnswer::OutsideLimits),
         CheckAnswer::NotZero => refused(ReadAnswer::NotZero),
@@ -67,6 +70,32 @@ fn judged(raw: Raw) -> ReadResult
             found: found,
         },
     }
+}
+
+// The record, or the first of 3 to 5 that meets it.
+fn judged(raw: Raw) -> ReadResult
+    ensures { λ x. ⌜ Judged raw x ⌝ }
+{
+    let found = raw.read;
+    let answer = records::check_read(found, raw.unlawful, raw.spare);
+    answered(answer, found)
+}
+
+// A visit, or the first of 3 to 5 that meets it: apart from the other kinds, for speed, since most records are visits.
+fn read_visit(s: &[u8]) -> ReadResult
+    requires { ⌜ length (now s) ≡ recordLength ⌝ }
+    ensures { λ x. ⌜ Judged (visitIn (bytesNumber (now (s .entry)))) x ⌝ }
+{
+    let raw = decode::visit_in(s);
+    let found = raw.read;
+    let entry = found.entry;
+    let marks = found.marks;
+    let sizes = found.sizes;
+    if !dates::date_exists(records::date_of(entry)) {
+        return refused(ReadAnswer::NoSuchDate);
+    }
+    let answer = records::check_visit(raw.unlawful, marks, sizes, raw.spare);
+    answered(answer, found)
 }
 
 pub fn read(s: &[u8]) -> ReadResult
@@ -81,6 +110,9 @@ pub fn read(s: &[u8]) -> ReadResult
     }
     if 4 < kind {
         return refused(ReadAnswer::NoSuchKind);
+    }
+    if kind == 2 {
+        return read_visit(s);
     }
     judged(decode::raw_in(kind, s))
 }

@@ -39,13 +39,14 @@ beyond-mark true size = sym (either-with-false (ltb largestSize size))
 beyond-mark false size = refl
 
 -- a visit's refusal, where f says that some target breaks 4 and g that some breaks 5
-module _ (n : ℕ) (spare f g e : Bool) (ee : e ≡ either f g) where
-  pub visit-broken : e ≡ true → (l : Bool) → l ≡ f → n ≡ firstOfFields l true → n ≡ firstOfFields f (either spare g)
-  visit-broken t l le ne = go f g (sym ee ∙ t) (rw le at ne)
-    where
-      go : (a b : Bool) → either a b ≡ true → n ≡ firstOfFields a true → n ≡ firstOfFields a (either spare b)
-      go true b q m = m
-      go false b q m = rw (q, either-with-true spare) m
+module _ (n : ℕ) (unlawful spare f g : Bool) where
+  module _ (u : unlawful ≡ false) (e : Bool) (ee : e ≡ either f g) where
+    pub visit-broken : e ≡ true → (l : Bool) → l ≡ f → n ≡ firstOfFields l true → n ≡ firstOfFields (either unlawful f) (either spare g)
+    visit-broken t l le ne = rw u (go f g (sym ee ∙ t) (rw le at ne))
+      where
+        go : (a b : Bool) → either a b ≡ true → n ≡ firstOfFields a true → n ≡ firstOfFields a (either spare b)
+        go true b q m = m
+        go false b q m = rw (q, either-with-true spare) m
 
-  pub visit-unbroken : e ≡ false → n ≡ firstOfFields false spare → n ≡ firstOfFields f (either spare g)
-  visit-unbroken t ne = let p = either-false f g (sym ee ∙ t) in rw (p .0, p .1, either-with-false spare) ne
+    pub visit-unbroken : e ≡ false → n ≡ firstOfFields false spare → n ≡ firstOfFields (either unlawful f) (either spare g)
+    visit-unbroken t ne = let p = either-false f g (sym ee ∙ t) in rw (u, p .0, p .1, either-with-false spare) ne

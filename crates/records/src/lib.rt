@@ -111,10 +111,14 @@ fn first_of(outside: bool, set: bool) -> CheckAnswer
     CheckAnswer::Passed
 }
 
-// One test passes most visits: a target that is too large for its mark breaks 4 where it is measured, and 5 where it is not.
-fn check_visit(marks: [bool; 5], sizes: [u16; 5], spare: bool) -> CheckAnswer
-    ensures { λ c. ⌜ checkNumber c ≡ pick (someTarget (λ (i : ℕ). largeMeasured) marks sizes) 4 (pick (either spare (someTarget (λ (i : ℕ). sizedUnmeasured) marks sizes)) 5 0) ⌝ }
+// Refusals 4 and 5 of a visit. One test passes most visits: a target that is too large for its mark breaks 4 where it is measured, and
+// 5 where it is not.
+pub fn check_visit(unlawful: bool, marks: [bool; 5], sizes: [u16; 5], spare: bool) -> CheckAnswer
+    ensures { λ c. ⌜ checkNumber c ≡ pick (either unlawful (someTarget (λ (i : ℕ). largeMeasured) marks sizes)) 4 (pick (either spare (someTarget (λ (i : ℕ). sizedUnmeasured) marks sizes)) 5 0) ⌝ }
 {
+    if unlawful {
+        return CheckAnswer::OutsideLimits;
+    }
     if targets::some_beyond_mark(marks, sizes) {
         return first_of(targets::some_large_measured(marks, sizes), true);
     }
@@ -132,7 +136,7 @@ fn check_fields(entry: Entry, marks: [bool; 5], sizes: [u16; 5], spare: bool) ->
                 spare | not_zero(b, marks, sizes),
             )
         }
-        Entry::Visit(_) => check_visit(marks, sizes, spare),
+        Entry::Visit(_) => check_visit(false, marks, sizes, spare),
         Entry::Therapy(_) => first_of(false, spare | targets::some_set_beyond(0, marks, sizes)),
         Entry::Death(_) => first_of(false, spare | targets::some_set_beyond(0, marks, sizes)),
     }

@@ -9,6 +9,7 @@ pub check-visit-spec : {M : Type 1} → statement M
 check-visit-spec =
     tie.close
     (tie.spec
+    (λ c. rw (c .if1 .taken))
     (λ c κs. search needs)
     (λ c κs. search needs)
     (λ c κs. search needs)

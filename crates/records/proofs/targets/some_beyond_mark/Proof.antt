@@ -28,8 +28,4 @@ some-beyond-mark-spec =
     (λ c. search needs)
     (λ c κs. search needs)
     (λ c κs. search needs)
-    (λ c.
-    let a = c .before .before .before .before .before .before .args in
-    c .any-of-five .ensures
-    ∙ rw (c .before .before .before .before .before .beyond-mark .ensures, c .before .before .before .before .beyond-mark2 .ensures, c .before .before .before .beyond-mark3 .ensures, c .before .before .beyond-mark4 .ensures, c .before .beyond-mark5 .ensures)
-    (some-either (targetAt (λ (i : ℕ). largeMeasured) (a .t1) (a .t2)) (targetAt (λ (i : ℕ). sizedUnmeasured) (a .t1) (a .t2)) 5)))
+    (λ c. c .any-of-five .ensures ∙ rw (c .before .before .before .before .before .beyond-mark .ensures, c .before .before .before .before .beyond-mark2 .ensures, c .before .before .before .beyond-mark3 .ensures, c .before .before .beyond-mark4 .ensures, c .before .beyond-mark5 .ensures) (some-either (targetAt (λ (i : ℕ). largeMeasured) (c .before .before .before .before .before .before .args .t1) (c .before .before .before .before .before .before .args .t2)) (targetAt (λ (i : ℕ). sizedUnmeasured) (c .before .before .before .before .before .before .args .t1) (c .before .before .before .before .before .before .args .t2)) 5)))
