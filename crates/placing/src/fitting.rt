@@ -1,22 +1,36 @@
 // Whether a visit fits the baseline.
 use records::Status;
 ghost use mathlib.Core.Path.{_≡_};
+ghost use mathlib.Core.List.{[], _∷_};
 ghost use lib.Dec.{eqb};
 ghost use Rattle.records.specs.Form.{statusNumber};
 ghost use Rattle.endpoints.specs.Lawful.{measuredBeyond, fitsBy};
 
 // By the count, so that the targets within it cost nothing.
+fn some_beyond(count: u8, a: bool, b: bool, c: bool, d: bool, e: bool) -> bool
+    ensures { λ r. ⌜ r ≡ measuredBeyond count (a ∷ b ∷ c ∷ d ∷ e ∷ []) ⌝ }
+{
+    match count {
+        0 => a | b | c | d | e,
+        1 => b | c | d | e,
+        2 => c | d | e,
+        3 => d | e,
+        4 => e,
+        _ => false,
+    }
+}
+
 fn measured_beyond(count: u8, measured: [bool; 5]) -> bool
     ensures { λ r. ⌜ r ≡ measuredBeyond count measured ⌝ }
 {
-    match count {
-        0 => measured[0] | measured[1] | measured[2] | measured[3] | measured[4],
-        1 => measured[1] | measured[2] | measured[3] | measured[4],
-        2 => measured[2] | measured[3] | measured[4],
-        3 => measured[3] | measured[4],
-        4 => measured[4],
-        _ => false,
-    }
+    some_beyond(
+        count,
+        measured[0],
+        measured[1],
+        measured[2],
+        measured[3],
+        measured[4],
+    )
 }
 
 fn is_na(status: Status) -> bool

@@ -1,4 +1,4 @@
--- `codec::read_visit` meets its contract: its date, then its own tests, as `search` finds them.
+-- `codec::read_visit` meets its contract: its date, then its own tests.
 -- Assumes nothing.
 use borrow.Author.Needs.{needs}
 use Rattle.codec.proofs.Answers.{visit-no-date, visit-judged}
@@ -13,7 +13,7 @@ read-visit-spec =
     (λ c κs. search needs)
     (λ c κs. search needs)
     (λ c κs. search needs)
-    (λ c. search visit-no-date)
+    (λ c. visit-no-date _ _ (c .before .before .before .before .before .before .before .visit-in .ensures) _ (c .before .before .before .date-of .ensures) _ (c .before .before .date-exists .ensures) (c .before .if1 .taken) _ (c .refused .ensures))
     (λ c κs. search needs)
     (λ c κs. search needs)
     (λ c. visit-judged _ _ (c .before .before .before .before .before .before .before .before .visit-in .ensures) _ (c .before .before .before .before .date-of .ensures) _ (c .before .before .before .date-exists .ensures) (c .before .before .if1 .left) (c .before .check-visit .result) (c .before .check-visit .ensures) _ (c .answered .ensures)))
