@@ -2,24 +2,18 @@
 -- Assumes nothing.
 use mathlib.Core.Path.{_≡_}
 use mathlib.Core.List.{List, [], _∷_, map}
-use Prim.Native.Nat.{ℕ, zero, suc, _/_}
-use lib.ListN.{length, take, drop}
+use Prim.Native.Nat.{ℕ}
 use Rattle.records.specs.declared.Record.{Record}
-use Rattle.codec.specs.Bytes.{recordLength}
 use Rattle.codec.specs.Reading.{recordOfBytes}
 use Rattle.endpoints.specs.Adding.{refusalOfOpening, Call, add, read, accepted}
 use Rattle.outcome.specs.declared.OutcomeAnswer.{OutcomeAnswer}
 use Rattle.outcome.specs.Promises.{refused, readingValues}
 use Rattle.outcome.specs.Demand3.{Claim}
-
--- the first n parts of 11 bytes
-abbrev pub parts : ℕ → List ℕ → List (List ℕ)
-parts zero l = []
-parts (suc n) l = take recordLength l ∷ parts n (drop recordLength l)
+use Rattle.file.specs.File.{partsOf}
 
 -- the records of a byte string; bytes behind the last whole part are left
 abbrev pub recordsIn : List ℕ → List Record
-recordsIn l = map recordOfBytes (parts (length l / recordLength) l)
+recordsIn l = map recordOfBytes (partsOf l)
 
 -- each record is added, and the outcome is read
 abbrev pub callsOf : List Record → List Call

@@ -1,7 +1,11 @@
 // The numbers of answers, and the outcome in the lines of the listing.
+use codec::ReadAnswer;
+use codec::WriteAnswer;
 use endpoints::BestResponse;
 use endpoints::DurationAnswer;
 use endpoints::PfsStatus;
+use file::FileAnswer;
+use file::FileRefusal;
 use opening::OpenAnswer;
 use outcome::OutcomeAnswer;
 use outcome::OutcomeResult;
@@ -11,8 +15,29 @@ pub(crate) fn text(line: &[u8]) {
     io::write_all(libc::STDOUT_FILENO, line);
 }
 
-fn number(n: u64) {
+pub(crate) fn number(n: u64) {
     io::print_decimal(libc::STDOUT_FILENO, n);
+}
+
+pub(crate) fn read(answer: ReadAnswer) {
+    match answer {
+        ReadAnswer::Done => text(b"0\n"),
+        ReadAnswer::NotElevenBytes => text(b"1\n"),
+        ReadAnswer::NoSuchKind => text(b"2\n"),
+        ReadAnswer::NoSuchDate => text(b"3\n"),
+        ReadAnswer::OutsideLimits => text(b"4\n"),
+        ReadAnswer::NotZero => text(b"5\n"),
+    }
+}
+
+pub(crate) fn written(answer: WriteAnswer) {
+    match answer {
+        WriteAnswer::Done => text(b"0\n"),
+        WriteAnswer::NoSuchDate => text(b"3\n"),
+        WriteAnswer::OutsideLimits => text(b"4\n"),
+        WriteAnswer::NotZero => text(b"5\n"),
+        WriteAnswer::ShortOutput => text(b"6\n"),
+    }
 }
 
 pub(crate) fn opened(answer: OpenAnswer) {
@@ -48,11 +73,11 @@ fn status(s: PfsStatus) {
 
 fn best(b: BestResponse) {
     match b {
-        BestResponse::CR => text(b"CR\n"),
-        BestResponse::PR => text(b"PR\n"),
-        BestResponse::SD => text(b"SD\n"),
-        BestResponse::PD => text(b"PD\n"),
-        BestResponse::NE => text(b"NE\n"),
+        BestResponse::CR => text(b"CR"),
+        BestResponse::PR => text(b"PR"),
+        BestResponse::SD => text(b"SD"),
+        BestResponse::PD => text(b"PD"),
+        BestResponse::NE => text(b"NE"),
     }
 }
 
@@ -85,7 +110,7 @@ fn told(o: OutcomeResult) {
     number(pfs.day.0 as u64);
     text(b"\nB ");
     best(b);
-    text(b"D ");
+    text(b"\nD ");
     duration(d);
     text(b"\nS");
     mark(o.settled.pfs);
@@ -98,5 +123,39 @@ pub(crate) fn outcome(o: OutcomeAnswer) {
     match o {
         OutcomeAnswer::OutOfRange => text(b"\nR 12\n"),
         OutcomeAnswer::Read(r) => told(r),
+    }
+}
+
+// The outcome of a file on one line.
+fn accepted(o: OutcomeResult) {
+    let pfs = o.pfs;
+    let s = pfs.status;
+    let b = o.best;
+    let d = o.duration;
+    text(b"F ");
+    status(s);
+    number(pfs.day.0 as u64);
+    text(b" ");
+    best(b);
+    text(b" ");
+    duration(d);
+    mark(o.settled.pfs);
+    mark(o.settled.best);
+    mark(o.settled.duration);
+    text(b"\n");
+}
+
+fn refused(r: FileRefusal) {
+    text(b"F R ");
+    number(r.number as u64);
+    text(b" ");
+    number(r.index as u64);
+    text(b"\n");
+}
+
+pub(crate) fn judged(answer: FileAnswer) {
+    match answer {
+        FileAnswer::Refused(r) => refused(r),
+        FileAnswer::Accepted(o) => accepted(o),
     }
 }

@@ -1,3 +1,4 @@
+pub mod Examples
 pub mod Numerals
 pub mod Found
 pub mod Texts

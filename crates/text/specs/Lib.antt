@@ -1,3 +1,4 @@
 pub mod Numerals
 pub mod Text
 pub mod Laws
+pub mod Examples

@@ -1,0 +1,19 @@
+-- `examples::listing` meets its contract.
+-- Assumes nothing.
+use borrow.Author.Needs.{needs}
+use mathlib.Core.Path.{sym}
+use lib.Seq.{length-take-le}
+use Rattle.listing.proofs.Pages.{within-page}
+use Rattle.examples.proofs.listing.Statement.{statement}
+use Rattle.examples.proofs.listing.Tie as tie
+
+pub listing-spec : {M : Type 1} → statement M
+listing-spec =
+    tie.close
+    (tie.spec
+    (λ c κs. search needs)
+    (λ c κs. search needs)
+    (λ c. within-page _ _ _ _ (c .list .ensures))
+    (λ c. sym (length-take-le (c .before .list .result) (c .before .list .last .1 .0) (within-page _ _ _ _ (c .before .list .ensures))))
+    (λ c κs. search needs)
+    (λ c. search needs))

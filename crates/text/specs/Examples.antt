@@ -1,0 +1,39 @@
+-- Document 01, "Change in size, file and listing": the lines of the printed example, and lines at the edges. Proved in proofs/Examples.antt.
+-- Assumes nothing.
+use mathlib.Core.Path.{_≡_}
+use mathlib.Core.Bool.{true, false}
+use mathlib.Core.List.{List, [], _∷_}
+use Prim.Native.Nat.{ℕ}
+use Rattle.criteria.specs.Words.{CR, PR, PD, NN}
+use Rattle.criteria.specs.Change.{none, signed}
+use Rattle.endpoints.specs.Values.{CENSORED, event, noDuration, forDays, EVENT}
+use Rattle.endpoints.specs.Lines.{VisitLine}
+use Rattle.text.specs.Text.{changeText, visitText, pfsText, bestText, durationText, settledText, refusalText}
+
+-- V 43 PR NN PR -40.0 and V 127 PD NN PD -75.0
+abbrev firstVisit : VisitLine
+firstVisit = record { day = 43; target = PR; nontarget = NN; overall = PR; change = signed true 400 }
+
+abbrev lastVisit : VisitLine
+lastVisit = record { day = 127; target = PD; nontarget = NN; overall = PD; change = signed true 750 }
+
+pub record LinesAtTheEdges : Type 0 where
+  pub first : visitText firstVisit ≡ 86 ∷ 32 ∷ 52 ∷ 51 ∷ 32 ∷ 80 ∷ 82 ∷ 32 ∷ 78 ∷ 78 ∷ 32 ∷ 80 ∷ 82 ∷ 32 ∷ 45 ∷ 52 ∷ 48 ∷ 46 ∷ 48 ∷ 10 ∷ []
+  pub last : visitText lastVisit
+      ≡ 86 ∷ 32 ∷ 49 ∷ 50 ∷ 55 ∷ 32 ∷ 80 ∷ 68 ∷ 32 ∷ 78 ∷ 78 ∷ 32 ∷ 80 ∷ 68 ∷ 32 ∷ 45 ∷ 55 ∷ 53 ∷ 46 ∷ 48 ∷ 10 ∷ []
+  -- P EVENT 127, B PR, D EVENT 85, S 1 1 1
+  pub pfs : pfsText (event 127) ≡ 80 ∷ 32 ∷ 69 ∷ 86 ∷ 69 ∷ 78 ∷ 84 ∷ 32 ∷ 49 ∷ 50 ∷ 55 ∷ 10 ∷ []
+  pub best : bestText PR ≡ 66 ∷ 32 ∷ 80 ∷ 82 ∷ 10 ∷ []
+  pub duration : durationText (forDays EVENT 85) ≡ 68 ∷ 32 ∷ 69 ∷ 86 ∷ 69 ∷ 78 ∷ 84 ∷ 32 ∷ 56 ∷ 53 ∷ 10 ∷ []
+  pub settled : settledText true true true ≡ 83 ∷ 32 ∷ 49 ∷ 32 ∷ 49 ∷ 32 ∷ 49 ∷ 10 ∷ []
+  -- D CENSORED 29, D none, S 0 1 0
+  pub censored : durationText (forDays CENSORED 29) ≡ 68 ∷ 32 ∷ 67 ∷ 69 ∷ 78 ∷ 83 ∷ 79 ∷ 82 ∷ 69 ∷ 68 ∷ 32 ∷ 50 ∷ 57 ∷ 10 ∷ []
+  pub noDays : durationText noDuration ≡ 68 ∷ 32 ∷ 110 ∷ 111 ∷ 110 ∷ 101 ∷ 10 ∷ []
+  pub bestAlone : settledText false true false ≡ 83 ∷ 32 ∷ 48 ∷ 32 ∷ 49 ∷ 32 ∷ 48 ∷ 10 ∷ []
+  -- no plus sign, `-` if none, zero is 0.0: 0.5, -0.5, 0.0, -
+  pub upwards : changeText (signed false 5) ≡ 48 ∷ 46 ∷ 53 ∷ []
+  pub downwards : changeText (signed true 5) ≡ 45 ∷ 48 ∷ 46 ∷ 53 ∷ []
+  pub zero : changeText (signed false 0) ≡ 48 ∷ 46 ∷ 48 ∷ []
+  pub absent : changeText none ≡ 45 ∷ []
+  -- R 13 0
+  pub refused : refusalText 13 0 ≡ 82 ∷ 32 ∷ 49 ∷ 51 ∷ 32 ∷ 48 ∷ 10 ∷ []
