@@ -77,9 +77,8 @@ fn bytes_of_one() {
     print::written(unwritten);
 }
 
-// The longest file is standard input: randomisation on 1990-01-01 with targets 40 and node 20 and non-target disease, and 3,999 visits, on
-// days 10,000 to 13,997 and 40,177, all (0, 0) and NN. Each history: its records in the order recorded; randomisation is on 2020-01-01.
-fn main() {
+// Opening, adding and reading, with refused additions, a therapy and a missing baseline.
+fn held_subjects() {
     // Baseline with targets 40 and node 20 and non-target disease; visits on days 43 (24, 12), 85 (0, 9) and 127 (0, 15), all NN.
     shown(
         b"the printed example\n",
@@ -117,6 +116,10 @@ fn main() {
         b"baseline missing, new lesion\n",
         b"\x2F\xC8\x21\x00\x00\x00\x00\x00\x00\x00\x00\x4F\xC8\x4C\x10\x00\x00\x00\x00\x00\x00\x00",
     );
+}
+
+// Examples 7, 11 and 14, and what stands beside them.
+fn edges() {
     // One target of 20; visits on days 43 (0), 60 (not measured) and 71 (0).
     shown(
         b"complete response confirmed\n",
@@ -157,6 +160,10 @@ fn main() {
         b"death on a visit's day\n",
         b"\x2F\xC8\x21\x88\x14\x00\x00\x00\x00\x00\x00\x4F\xC8\x4C\x08\x28\x00\x00\x00\x00\x00\x00\x4F\xC8\xF2\x08\x28\x00\x00\x00\x00\x00\x00\x8F\xC8\xF2\x00\x00\x00\x00\x00\x00\x00\x00",
     );
+}
+
+// The change, growth and the nadir.
+fn changes() {
     // Five targets of 500; a visit on day 43 (500, 500, 500, 500, 499), which is -0.04 %.
     shown(
         b"a change that rounds to zero\n",
@@ -187,6 +194,10 @@ fn main() {
         b"therapy and death on day 1\n",
         b"\x2F\xC8\x21\xD0\x28\x82\x80\x00\x00\x00\x00\x6F\xC8\x21\x00\x00\x00\x00\x00\x00\x00\x00\x8F\xC8\x21\x00\x00\x00\x00\x00\x00\x00\x00",
     );
+}
+
+// Refusals in the order of their numbers.
+fn refusals() {
     // That baseline; a visit on day 1, which 10 meets.
     shown(
         b"a visit on day 1\n",
@@ -217,6 +228,10 @@ fn main() {
         b"a second baseline\n",
         b"\x2F\xC8\x21\xD0\x28\x82\x80\x00\x00\x00\x00\x2F\xC8\x21\xD0\x28\x82\x80\x00\x00\x00\x00",
     );
+}
+
+// Refusals of later records, and of a file that opens with none.
+fn later_refusals() {
     // That baseline; death on day 5, therapy on day 6.
     shown(
         b"after a death\n",
@@ -237,17 +252,32 @@ fn main() {
         b"no baseline\n",
         b"\x6F\xC8\x21\x00\x00\x00\x00\x00\x00\x00\x00\x4F\xC8\x4C\x48\x31\x03\x00\x00\x00\x00\x00",
     );
-    // Nothing, which 13 meets.
+}
+
+// Refusal 13, and as many records as a file may have, of kind 0.
+fn lengths() {
+    // Nothing.
     listed(b"no bytes\n", b"");
-    // The first baseline and one byte more, which 13 meets.
+    // The first baseline and one byte more.
     listed(
         b"twelve bytes\n",
         b"\x2F\xC8\x21\xD0\x28\x82\x80\x00\x00\x00\x00\x00",
     );
-    // One record more than a file may have, and as many as it may, of kind 0.
     let zeros = [0u8; 44011];
     listed(b"44,011 bytes\n", &zeros);
     listed(b"44,000 bytes\n", &zeros[..44000]);
+}
+
+// The longest file is standard input: randomisation on 1990-01-01 with targets 40 and node 20 and non-target disease, and 3,999 visits, on
+// days 10,000 to 13,997 and 40,177, all (0, 0) and NN. In each other history the records stand in the order recorded, and randomisation is on
+// 2020-01-01.
+fn main() {
+    held_subjects();
+    edges();
+    changes();
+    refusals();
+    later_refusals();
+    lengths();
     bytes_of_one();
     let mut input = io::large_buffer();
     let n = io::read_full(libc::STDIN_FILENO, &mut input);
