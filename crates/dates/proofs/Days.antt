@@ -2,11 +2,11 @@
 -- Assumes nothing.
 use mathlib.Core.Path.{_≡_, refl, sym}
 use mathlib.Core.Bool.{Bool, true, false}
-use Prim.Native.Nat.{ℕ, _+_, _-_, _*_, _/_, _≤_, _<_}
+use Prim.Native.Nat.{ℕ, _+_, _-_, _*_, _/_, _%_, _≤_, _<_}
 use native.Mathlib.Nat.{le-trans, add-sub-of-le}
 use native.Mathlib.Omega.{arith}
 use lib.Dec.{eqb, leb, ltb}
-use borrow.Author.Tests.{lt-ltb, le-ltb, le-leb, lt-leb, eqb-true, eqb-false, leb-true, leb-false, ltb-false}
+use borrow.Author.Tests.{lt-ltb, le-ltb, le-leb, lt-leb, ne-eqb, eqb-true, eqb-false, leb-true, leb-false, ltb-false}
 use Rattle.laws.specs.Choice.{both, either, pick, all}
 use Rattle.laws.proofs.Tests.{both-true}
 use Rattle.laws.proofs.Every.{all-at}
@@ -123,13 +123,30 @@ unfolding daysInMonth
 month-long true m h g = leb-true 28 _ (rw (lt-leb m 0 h) at (all-at (monthLong true) 13 refl m (omega arith)))
 month-long false m h g = leb-true 28 _ (rw (lt-leb m 0 h) at (all-at (monthLong false) 13 refl m (omega arith)))
 
-zero-month : (leap : Bool) (m : ℕ) → m < 1 → daysInMonth leap m ≡ 0
+pub zero-month : (leap : Bool) (m : ℕ) → m < 1 → daysInMonth leap m ≡ 0
 unfolding daysInMonth
 zero-month leap m h = let z : m ≡ 0 = omega arith in rw z
 
-month-past : (leap : Bool) (m : ℕ) → 12 < m → daysInMonth leap m ≡ 0
+pub month-past : (leap : Bool) (m : ℕ) → 12 < m → daysInMonth leap m ≡ 0
 unfolding daysInMonth
 month-past leap m h = rw (lt-ltb 12 m h)
+
+pub february : (leap : Bool) (m : ℕ) → m ≡ 2 → daysInMonth leap m ≡ pick leap 29 28
+unfolding daysInMonth
+february true m h = rw h
+february false m h = rw h
+
+-- the closed form of the days of the other months
+abbrev otherMonth : Bool → ℕ → Bool
+otherMonth leap m = either (leb m 0) (either (eqb m 2) (eqb (30 + (m + m / 8) % 2) (daysInMonth leap m)))
+
+other-months : (leap : Bool) (m : ℕ) → m ≤ 12 → otherMonth leap m ≡ true
+unfolding daysInMonth
+other-months true m h = all-at (otherMonth true) 13 refl m (omega arith)
+other-months false m h = all-at (otherMonth false) 13 refl m (omega arith)
+
+pub other-month : (leap : Bool) (m : ℕ) → 1 ≤ m → m ≤ 12 → (m ≡ 2 → ⊥) → 30 + (m + m / 8) % 2 ≡ daysInMonth leap m
+other-month leap m h g n = eqb-true _ _ (rw (lt-leb m 0 h, ne-eqb m 2 n) at (other-months leap m g))
 
 -- a day up to the 28th is one of every month
 module _ (leap : Bool) (m k : ℕ) (e : both (leb 1 k) (leb k 28) ≡ true) where

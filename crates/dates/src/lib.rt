@@ -36,18 +36,19 @@ const LAST_YEAR: u16 = 2099;
 
 const SHORTEST_MONTH: u8 = 28;
 
-// The days of each month of a common year, January at 1.
-const DAYS: [u8; 13] = [0, 31, 28, 31, 30, 31, 30, 31, 31, 30, 31, 30, 31];
-
 fn leap_year(year: u16) -> bool
     ensures { λ r. ⌜ r ≡ leapYear year ⌝ }
 {
     year % 4 == 0 && (year % 100 != 0 || year % 400 == 0)
 }
 
+// Beside February, 31 in the odd months to July and in the even ones from August on, 30 in the others.
 fn days_in_month(year: u16, month: u8) -> u8
     ensures { λ r. ⌜ r ≡ daysInMonth (leapYear year) month ⌝ }
 {
+    if month < 1 {
+        return 0;
+    }
     if 12 < month {
         return 0;
     }
@@ -55,8 +56,9 @@ fn days_in_month(year: u16, month: u8) -> u8
         if leap_year(year) {
             return 29;
         }
+        return SHORTEST_MONTH;
     }
-    DAYS[month as usize]
+    30 + (month + month / 8) % 2
 }
 
 // Every month has the days of the shortest one, which spares most dates a look at their month's days.
