@@ -5,10 +5,9 @@ use mathlib.Core.Bool.{Bool, true, false, not}
 use mathlib.Core.List.{List, _++_}
 use Prim.Native.Nat.{ℕ, suc, _≤_, _<_}
 use native.Mathlib.Omega.{arith}
-use lib.Dec.{leb}
 use lib.ListN.{length, drop}
-use borrow.Author.Tests.{eq-eqb, ne-eqb, lt-ltb, le-ltb, le-leb, lt-leb}
-use Rattle.laws.specs.Choice.{both, either, pick}
+use borrow.Author.Tests.{eq-eqb, ne-eqb, lt-ltb, le-ltb}
+use Rattle.laws.specs.Choice.{either, pick}
 use Rattle.packing.specs.Layout.{AreBytes}
 use Rattle.dates.specs.Calendar.{dateExists}
 use Rattle.dates.specs.declared.Date.{Date}
@@ -22,7 +21,7 @@ use Rattle.records.specs.declared.CheckAnswer.{CheckAnswer}
 use Rattle.records.specs.declared.CheckAnswer.the-variants as C
 use Rattle.codec.specs.Bytes.{recordLength, bytesNumber, bytesOf}
 use Rattle.codec.specs.Fields.{fieldAt}
-use Rattle.codec.specs.Reading.{readNumber, visitIn, rawIn, refusalOfRaw, refusalOfNumber, refusalOfBytes, blank, recordOfBytes, Judged, Reads}
+use Rattle.codec.specs.Reading.{readNumber, isKind, visitIn, rawIn, refusalOfRaw, refusalOfNumber, refusalOfBytes, blank, recordOfBytes, Judged, Reads}
 use Rattle.codec.specs.Writing.{writeNumber, refusalOfWrite, outputOf, Writes}
 use Rattle.codec.specs.declared.Raw.{Raw}
 use Rattle.codec.specs.declared.ReadAnswer.the-variants as R
@@ -84,6 +83,10 @@ module _ (n : ℕ) (w : Raw) (we : w ≡ visitIn n) (d : Date) (de : d ≡ dateO
 
 -- ---- reading
 
+visit-raw : (kind n : ℕ) → kind ≡ 2 → visitIn n ≡ rawIn kind n
+unfolding rawIn
+visit-raw kind n e = rw e
+
 module _ (s : List ℕ) (x : ReadResult) (b : AreBytes s) where
   reads-refused : (n : ℕ) → refusalOfBytes s ≡ suc n → readNumber (x .answer) ≡ suc n → x .found ≡ blank → Reads s x
   unfolding recordOfBytes
@@ -94,26 +97,19 @@ module _ (s : List ℕ) (x : ReadResult) (b : AreBytes s) where
   reads-length h q = reads-refused 0 (rw (ne-eqb (length s) recordLength h)) (ap readNumber (q .0)) (q .1)
 
   module _ (l : length s ≡ recordLength) (kind : ℕ) (ke : kind ≡ fieldAt s 0 3) where
-    reads-kind : both (leb 1 kind) (leb kind 4) ≡ false → (x .answer ≡ R.NoSuchKind) × (x .found ≡ blank) → Reads s x
-    unfolding refusalOfBytes refusalOfNumber
-    reads-kind h q = reads-refused 1 (rw (eq-eqb (length s) recordLength l, ← ke, h)) (ap readNumber (q .0)) (q .1)
+    module _ (known : Bool) (known-e : known ≡ isKind kind) where
+      pub reads-no-kind : not known ≡ true → (x .answer ≡ R.NoSuchKind) × (x .found ≡ blank) → Reads s x
+      unfolding refusalOfBytes refusalOfNumber
+      reads-no-kind h q = reads-refused 1 (rw (eq-eqb (length s) recordLength l, ← ke, ← known-e, h)) (ap readNumber (q .0)) (q .1)
 
-    pub reads-low-kind : kind < 1 → (x .answer ≡ R.NoSuchKind) × (x .found ≡ blank) → Reads s x
-    reads-low-kind h = reads-kind (rw (lt-leb 1 kind h))
+      pub reads-judged : not known ≡ false → (w : Raw) → w ≡ rawIn kind (bytesNumber s) → Judged w x → Reads s x
+      unfolding refusalOfBytes refusalOfNumber recordOfBytes
+      reads-judged h w we j =
+          let q : refusalOfBytes s ≡ refusalOfRaw w = rw (eq-eqb (length s) recordLength l, ← ke, ← known-e, h, we) in
+          record { answer = j .answer ∙ sym q; found = j .found ∙ rw (q, ← ke, we); octets = b }
 
-    pub reads-high-kind : 4 < kind → (x .answer ≡ R.NoSuchKind) × (x .found ≡ blank) → Reads s x
-    reads-high-kind h = reads-kind (rw (le-leb 1 kind (omega arith), lt-leb kind 4 h))
-
-    pub reads-judged : 1 ≤ kind → kind ≤ 4 → (w : Raw) → w ≡ rawIn kind (bytesNumber s) → Judged w x → Reads s x
-    unfolding refusalOfBytes refusalOfNumber recordOfBytes
-    reads-judged h g w we j =
-        let q : refusalOfBytes s ≡ refusalOfRaw w =
-        rw (eq-eqb (length s) recordLength l, ← ke, le-leb 1 kind h, le-leb kind 4 g, we) in
-        record { answer = j .answer ∙ sym q; found = j .found ∙ rw (q, ← ke, we); octets = b }
-
-pub visit-raw : (kind n : ℕ) → kind ≡ 2 → visitIn n ≡ rawIn kind n
-unfolding rawIn
-visit-raw kind n e = rw e
+    pub reads-visit : kind ≡ 2 → Judged (visitIn (bytesNumber s)) x → Reads s x
+    reads-visit e = reads-judged true (rw e) refl (visitIn (bytesNumber s)) (visit-raw kind (bytesNumber s) e)
 
 -- ---- writing
 

@@ -102,9 +102,12 @@ rawIn kind n =
 abbrev pub refusalOfRaw : Raw → ℕ
 refusalOfRaw w = refusalOfRead (w .read) (w .unlawful) (w .spare)
 
+abbrev pub isKind : ℕ → Bool
+isKind kind = both (leb 1 kind) (leb kind 4)
+
 -- 2, then 3 to 5
 unfoldable pub refusalOfNumber : ℕ → ℕ
-refusalOfNumber n = pick (not (both (leb 1 (kindIn n)) (leb (kindIn n) 4))) 2 (refusalOfRaw (rawIn (kindIn n) n))
+refusalOfNumber n = pick (not (isKind (kindIn n))) 2 (refusalOfRaw (rawIn (kindIn n) n))
 
 -- 1, then the others
 unfoldable pub refusalOfBytes : List ℕ → ℕ

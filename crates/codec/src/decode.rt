@@ -188,13 +188,15 @@ fn spare_in(s: &[u8], entry: Entry) -> Raw
     }
 }
 
-// Of a kind other than a visit, which is read by itself.
 pub(crate) fn raw_in(kind: u16, s: &[u8]) -> Raw
-    requires { ⌜ (length (now s) ≡ recordLength) × (kind ≡ 2 → ⊥) ⌝ }
+    requires { ⌜ length (now s) ≡ recordLength ⌝ }
     ensures { λ r. ⌜ r ≡ rawIn kind (bytesNumber (now (s .entry))) ⌝ }
 {
     if kind == 1 {
         return baseline_in(s);
+    }
+    if kind == 2 {
+        return visit_in(s);
     }
     let date = date_in(s);
     if kind == 3 {

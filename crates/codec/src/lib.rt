@@ -5,7 +5,7 @@ ghost use mathlib.Core.Path.{_≡_};
 ghost use lib.ListN.{length};
 ghost use Rattle.records.specs.Refusals.{checkNumber};
 ghost use Rattle.codec.specs.Bytes.{recordLength, bytesNumber};
-ghost use Rattle.codec.specs.Reading.{visitIn, refusalOfRaw, blank, Judged, Reads};
+ghost use Rattle.codec.specs.Reading.{isKind, visitIn, refusalOfRaw, blank, Judged, Reads};
 ghost use Rattle.codec.specs.declared.Raw.{Raw};
 ghost use Rattle.codec.specs.Writing.{Writes};
 
@@ -81,7 +81,26 @@ fn judged(raw: Raw) -> ReadResult
     answered(answer, found)
 }
 
-// A visit, or the first of 3 to 5 that meets it: apart from the other kinds, for speed, since most records are visits.
+fn is_kind(n: u16) -> bool
+    ensures { λ r. ⌜ r ≡ isKind n ⌝ }
+{
+    (1 <= n) & (n <= 4)
+}
+
+pub fn read(s: &[u8]) -> ReadResult
+    ensures { λ x. ⌜ Reads (now (s .entry)) x ⌝ }
+{
+    if s.len() != RECORD_LENGTH {
+        return refused(ReadAnswer::NotElevenBytes);
+    }
+    let kind = fields::field(s, 0, 3);
+    if !is_kind(kind) {
+        return refused(ReadAnswer::NoSuchKind);
+    }
+    judged(decode::raw_in(kind, s))
+}
+
+// A visit, or the first of 3 to 5 that meets it.
 fn read_visit(s: &[u8]) -> ReadResult
     requires { ⌜ length (now s) ≡ recordLength ⌝ }
     ensures { λ x. ⌜ Judged (visitIn (bytesNumber (now (s .entry)))) x ⌝ }
@@ -98,21 +117,19 @@ fn read_visit(s: &[u8]) -> ReadResult
     answered(answer, found)
 }
 
-pub fn read(s: &[u8]) -> ReadResult
+// The same as `read`, for the later records of a file: most are visits, which are read apart from the other kinds, for speed.
+pub fn read_later(s: &[u8]) -> ReadResult
     ensures { λ x. ⌜ Reads (now (s .entry)) x ⌝ }
 {
     if s.len() != RECORD_LENGTH {
         return refused(ReadAnswer::NotElevenBytes);
     }
     let kind = fields::field(s, 0, 3);
-    if kind < 1 {
-        return refused(ReadAnswer::NoSuchKind);
-    }
-    if 4 < kind {
-        return refused(ReadAnswer::NoSuchKind);
-    }
     if kind == 2 {
         return read_visit(s);
+    }
+    if !is_kind(kind) {
+        return refused(ReadAnswer::NoSuchKind);
     }
     judged(decode::raw_in(kind, s))
 }

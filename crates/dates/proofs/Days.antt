@@ -7,7 +7,7 @@ use native.Mathlib.Nat.{le-trans, add-sub-of-le}
 use native.Mathlib.Omega.{arith}
 use lib.Dec.{eqb, leb, ltb}
 use borrow.Author.Tests.{lt-ltb, le-ltb, le-leb, lt-leb, ne-eqb, eqb-true, eqb-false, leb-true, leb-false, ltb-false}
-use Rattle.laws.specs.Choice.{both, either, pick, all}
+use Rattle.laws.specs.Choice.{both, either, pick}
 use Rattle.laws.proofs.Tests.{both-true}
 use Rattle.laws.proofs.Every.{all-at}
 use Rattle.dates.specs.Calendar.{leapYear, daysInMonth, dateExists, daysOfYears, daysOfMonths}
