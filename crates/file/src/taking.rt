@@ -51,18 +51,18 @@ fn placed(s: Subject, r: Record) -> PlaceResult
 pub fn later_record(s: Subject, part: &[u8]) -> TakenRecord
     ensures { λ x. ⌜ Takes s (now (part .entry)) x ⌝ }
 {
-    let read = codec::read(part);
+    let read = codec::read_later(part);
     let answer = read.answer;
     let found = read.found;
     let unread = read_number(answer);
     if unread != 0 {
         return without_visit(unread, s);
     }
-    let placing = placed(s, found);
-    let added = placing.added;
+    let result = placed(s, found);
+    let added = result.added;
     let refusal = added.answer;
     let subject = added.subject;
-    let visit = placing.visit;
+    let visit = result.visit;
     let number = placing::add_number(refusal);
     TakenRecord {
         number: number,

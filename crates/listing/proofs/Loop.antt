@@ -34,31 +34,39 @@ use Rattle.listing.proofs.Writing.{then, nothing, as-text}
 use Rattle.listing.proofs.Lines.{short-visit, shown-short, lines-more}
 
 -- the records before index k are taken, and their lines written
-pub record Printing (l lines₀ lines : List ℕ) (s : Subject) (at k : ℕ) : Type 0 where
+pub record Printing (l page₀ page : List ℕ) (s : Subject) (at k : ℕ) : Type 0 where
   pub standing : Standing l s k
-  pub written : Wrote lines₀ 0 (linesText (linesOn (onStudyDays (standing .before)))) at lines
+  pub written : Wrote page₀ 0 (linesText (linesOn (onStudyDays (standing .before)))) at page
 
--- a refusal says nothing of the lines
-refused-into : (l lines left : List ℕ) (a : FileAnswer) (n k m : ℕ) → Judges l a → fileValues a ≡ refused n k → k < 100000 → m ≡ 0 → JudgesInto l lines a m left
-refused-into l lines left a n k m w e h z =
-    record {
-      answer = w .answer;
-      index = subst SmallIndex (sym e) h;
-      within = omega (arith, z);
-      written = λ o q. absurd (apart (sym (w .answer) ∙ e) q);
-    }
+-- of a refused file nothing is said of the text
+module _ (l page left : List ℕ) (a : FileAnswer) (m : ℕ) where
+  refused-into : (n k : ℕ) → Judges l a → fileValues a ≡ refused n k → k < 100000 → m ≤ mostLines → (text : List ℕ) → Wrote page 0 text m left → JudgesInto l page a m left
+  refused-into n k w e h b text u =
+      record {
+        answer = w .answer;
+        index = subst SmallIndex (sym e) h;
+        within = b;
+        text = text;
+        written = u;
+        lines = λ o q. absurd (apart (sym (w .answer) ∙ e) q);
+      }
 
-module _ (l lines left : List ℕ) (a : FileAnswer) (m : ℕ) where
-  pub bad-into : badLength (length l) ≡ true → (fileValues a ≡ refused 13 0) × (m ≡ 0) → JudgesInto l lines a m left
-  bad-into h e = refused-into l lines left a 13 0 m (bad l a h (e .0)) (e .0) (omega arith) (e .1)
+  -- before the second record nothing is written
+  early-into : (n : ℕ) → Judges l a → left ≡ page → (fileValues a ≡ refused n 0) × (m ≡ 0) → JudgesInto l page a m left
+  early-into n w p e = refused-into n 0 w (e .0) (omega arith) (omega (arith, e .1)) [] (rw (p, e .1) (nothing page 0))
 
-  pub first-into : badLength (length l) ≡ false → (x : TakenRecord) → TakesFirst (take 11 l) x → (x .number ≡ 0 → ⊥) →
-      (fileValues a ≡ refused (x .number) 0) × (m ≡ 0) → JudgesInto l lines a m left
-  first-into h x w z e = refused-into l lines left a (x .number) 0 m (first-refused l h x a w z (e .0)) (e .0) (omega arith) (e .1)
+  pub bad-into : badLength (length l) ≡ true → left ≡ page → (fileValues a ≡ refused 13 0) × (m ≡ 0) → JudgesInto l page a m left
+  bad-into h p e = early-into 13 (bad l a h (e .0)) p e
 
-  pub turn-into : (s : Subject) (k : ℕ) → Standing l s k → k < length l / 11 → length l ≤ 44000 → (x : TakenRecord) → Takes s (partAt l k) x → (x .number ≡ 0 → ⊥) →
-      (fileValues a ≡ refused (x .number) k) × (m ≡ 0) → JudgesInto l lines a m left
-  turn-into s k w h b x v z e = refused-into l lines left a (x .number) k m (turn-refused l s k w h x v a z (e .0)) (e .0) (omega arith) (e .1)
+  pub first-into : badLength (length l) ≡ false → left ≡ page → (x : TakenRecord) → TakesFirst (take 11 l) x → (x .number ≡ 0 → ⊥) →
+      (fileValues a ≡ refused (x .number) 0) × (m ≡ 0) → JudgesInto l page a m left
+  first-into h p x w z e = early-into (x .number) (first-refused l h x a w z (e .0)) p e
+
+  pub turn-into : (s : Subject) (at k : ℕ) → Printing l page left s at k → k < length l / 11 → length l ≤ 44000 → at ≤ mostLines → (x : TakenRecord) →
+      Takes s (partAt l k) x → (x .number ≡ 0 → ⊥) → (fileValues a ≡ refused (x .number) k) × (m ≡ at) → JudgesInto l page a m left
+  turn-into s at k w h b f x v z e =
+      refused-into (x .number) k (turn-refused l s k (w .standing) h x v a z (e .0)) (e .0) (omega arith) (omega (arith, e .1))
+      (linesText (linesOn (onStudyDays (w .standing .before)))) (rw (e .1) (w .written))
 
 -- a first record prints no line
 alone : (d : Date) (e : Entry) (marks : List Bool) (sizes : List ℕ) → linesOn (entryOnStudyDay d e marks sizes ∷ []) ≡ []
@@ -67,22 +75,22 @@ alone d (E.Visit v) marks sizes = refl
 alone d (E.Therapy t) marks sizes = refl
 alone d (E.Death t) marks sizes = refl
 
-pub first-printing : (l lines : List ℕ) → badLength (length l) ≡ false → (x : TakenRecord) → TakesFirst (take 11 l) x → x .number ≡ 0 →
-    Printing l lines lines (x .subject) 0 1
-first-printing l lines h x w z =
+pub first-printing : (l page : List ℕ) → badLength (length l) ≡ false → (x : TakenRecord) → TakesFirst (take 11 l) x → x .number ≡ 0 →
+    Printing l page page (x .subject) 0 1
+first-printing l page h x w z =
     let r = recordOfBytes (take 11 l) in
     record {
       standing = first-standing l h x w z;
-      written = as-text (ap linesText (sym (alone (dateOf (r .entry)) (r .entry) (r .marks) (r .sizes)))) (nothing lines 0);
+      written = as-text (ap linesText (sym (alone (dateOf (r .entry)) (r .entry) (r .marks) (r .sizes)))) (nothing page 0);
     }
 
-module _ (l lines₀ lines : List ℕ) (s : Subject) (at k : ℕ) (w : Printing l lines₀ lines s at k) (h : k < length l / 11) (x : TakenRecord)
+module _ (l page₀ page : List ℕ) (s : Subject) (at k : ℕ) (w : Printing l page₀ page s at k) (h : k < length l / 11) (x : TakenRecord)
     (v : Takes s (partAt l k) x) (z : x .number ≡ 0) where
   pub next-writable : AllWritable (visitValues (x .visit)) × (length (linesText (visitValues (x .visit))) ≤ 24)
   next-writable = short-visit (x .visit) (shown-short (w .standing .taken) (partAt l k) x v z)
 
-  pub turn-printing : (at′ : ℕ) (lines′ : List ℕ) → Wrote lines at (linesText (visitValues (x .visit))) at′ lines′ → Printing l lines₀ lines′ (x .subject) at′ (k + 1)
-  turn-printing at′ lines′ u =
+  pub turn-printing : (at′ : ℕ) (page′ : List ℕ) → Wrote page at (linesText (visitValues (x .visit))) at′ page′ → Printing l page₀ page′ (x .subject) at′ (k + 1)
+  turn-printing at′ page′ u =
       record {
         standing = turn l s k (w .standing) h x v z;
         written =
@@ -93,7 +101,7 @@ module _ (l lines₀ lines : List ℕ) (s : Subject) (at k : ℕ) (w : Printing 
       }
 
 -- behind the last record
-module _ (l lines₀ lines : List ℕ) (s : Subject) (at k : ℕ) (w : Printing l lines₀ lines s at k) (h : length l / 11 ≤ k) (b : k ≤ 4000) (m : at ≤ mostLines)
+module _ (l page₀ page : List ℕ) (s : Subject) (at k : ℕ) (w : Printing l page₀ page s at k) (h : length l / 11 ≤ k) (b : k ≤ 4000) (m : at ≤ mostLines)
     (a : FileAnswer) (v : Ends s (k - 1) a) where
   judged : Judges l a
   judged = ended l s k (w .standing) h a v
@@ -127,11 +135,13 @@ module _ (l lines₀ lines : List ℕ) (s : Subject) (at k : ℕ) (w : Printing 
       let none : from l k ≡ [] = rw z in
       sym (append-nil (w .standing .before)) ∙ ap (λ (ps : List (List ℕ)). w .standing .before ++ map recordOfBytes ps) (sym none) ∙ w .standing .all
 
-  pub ended-into : JudgesInto l lines₀ a at lines
+  pub ended-into : JudgesInto l page₀ a at page
   ended-into =
       record {
         answer = judged .answer;
         index = small;
         within = m;
-        written = λ o e. (told o e, subst (λ (rs : List Record). Wrote lines₀ 0 (linesText (linesOn (onStudyDays rs))) at lines) every-record (w .written));
+        text = linesText (linesOn (onStudyDays (w .standing .before)));
+        written = w .written;
+        lines = λ o e. (told o e, ap (λ (rs : List Record). linesText (linesOn (onStudyDays rs))) every-record);
       }

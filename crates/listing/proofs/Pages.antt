@@ -1,23 +1,21 @@
 -- What copying leaves, and the whole page behind a listing.
 -- Assumes nothing.
-use mathlib.Core.Path.{_≡_, sym, _∙_, ap}
-use mathlib.Core.List.{List, _++_, map}
+use mathlib.Core.Path.{_≡_, sym, _∙_, ap, subst}
+use mathlib.Core.List.{List, _++_}
 use Prim.Native.Nat.{ℕ, suc, _+_, _≤_, _<_}
 use native.Mathlib.Nat.{zero-add}
 use native.Mathlib.Numerals.{add-one}
 use native.Mathlib.Omega.{arith}
-use lib.ListN.{length, length-append, getD, set, take, drop}
-use lib.Seq.{drop-cons, append-snoc, set-at, take-suc, length-take-le, take-append-seam, sets-eq}
-use Rattle.codec.specs.Reading.{recordOfBytes}
-use Rattle.endpoints.specs.StudyRecords.{onStudyDays}
+use lib.ListN.{length, length-append, getD, set, take, drop, take-append-drop}
+use lib.Seq.{drop-cons, append-snoc, set-at, take-suc, length-take-le, drop-append-seam, sets-eq}
 use Rattle.outcome.specs.Promises.{outcome, outcomeValues}
 use Rattle.outcome.specs.Laws.{TellsWithin}
 use Rattle.outcome.specs.declared.OutcomeResult.{OutcomeResult}
 use Rattle.file.specs.declared.FileAnswer.{FileAnswer}
 use Rattle.file.specs.declared.FileAnswer.the-variants as F
 use Rattle.file.specs.declared.FileRefusal.{FileRefusal}
-use Rattle.file.specs.File.{partsOf, refused, accepted, verdictOf, fileValues}
-use Rattle.text.specs.Text.{outcomeText, refusalText, linesText, linesOn, listingOf, longestListing, pageOf}
+use Rattle.file.specs.File.{refused, accepted, verdictOf, fileValues}
+use Rattle.text.specs.Text.{outcomeText, refusalText, listingOf, longestListing, pageOf}
 use Rattle.text.proofs.Lengths.{lengths}
 use Rattle.listing.specs.Writing.{Wrote, SmallIndex, JudgesInto, Lists}
 use Rattle.listing.proofs.Writing.{then, as-text}
@@ -44,39 +42,37 @@ from-start page text left n h w =
 pub small-index : (a : FileAnswer) (r : FileRefusal) → a ≡ F.Refused r → SmallIndex (fileValues a) → r .index < 100000
 small-index a r q h = rw q at h
 
-module _ (s lines : List ℕ) (a : FileAnswer) (m : ℕ) (lines₁ : List ℕ) (w : JudgesInto s lines a m lines₁) where
+module _ (s page : List ℕ) (a : FileAnswer) (m : ℕ) (page₁ : List ℕ) (w : JudgesInto s page a m page₁) (size : length page ≡ longestListing) where
   pub told-within : (o : OutcomeResult) → a ≡ F.Accepted o → TellsWithin (outcome (outcomeValues o))
-  told-within o q = w .written (outcomeValues o) (sym (w .answer) ∙ rw q) .0
+  told-within o q = w .lines (outcomeValues o) (sym (w .answer) ∙ rw q) .0
 
-  pub lists-refused : (page left : List ℕ) (n : ℕ) (r : FileRefusal) → a ≡ F.Refused r → length page ≡ longestListing →
-      Wrote page 0 (refusalText (r .number) (r .index)) n left → Lists s page n left
+  -- the bytes that were there, copied over the text that was written, restore the page
+  restored : (page₂ : List ℕ) → page₂ ≡ take m page ++ drop m page₁ → page₂ ≡ page
+  restored page₂ e =
+      let done = from-start page (w .text) page₁ m (omega (arith, w .within, w .written .place, size)) (w .written) in
+      let rest : drop m page₁ ≡ drop m page =
+      (λ i. drop (done .0 i) (done .1 i)) ∙ drop-append-seam (w .text) (drop (length (w .text)) page) ∙ ap (λ (k : ℕ). drop k page) (sym (done .0)) in
+      e ∙ ap (λ (t : List ℕ). take m page ++ t) rest ∙ take-append-drop m page
+
+  pub lists-refused : (page₂ left : List ℕ) (n : ℕ) (r : FileRefusal) → a ≡ F.Refused r → page₂ ≡ take m page ++ drop m page₁ →
+      Wrote page₂ 0 (refusalText (r .number) (r .index)) n left → Lists s page n left
   unfolding listingOf pageOf
-  lists-refused page left n r q size v =
+  lists-refused page₂ left n r q e v =
       let verdict : verdictOf s ≡ refused (r .number) (r .index) = sym (w .answer) ∙ rw q in
       let text : refusalText (r .number) (r .index) ≡ listingOf s = rw verdict in
-      let done = from-start page (listingOf s) left n (omega (arith, lengths .listing s, size)) (as-text text v) in
+      let again : Wrote page 0 (refusalText (r .number) (r .index)) n left =
+      subst (λ (p : List ℕ). Wrote p 0 (refusalText (r .number) (r .index)) n left) (restored page₂ e) v in
+      let done = from-start page (listingOf s) left n (omega (arith, lengths .listing s, size)) (as-text text again) in
       record { count = done .0; whole = done .1 }
 
-  module _ (o : OutcomeResult) (q : a ≡ F.Accepted o) (n : ℕ) (lines₂ : List ℕ) (v : Wrote lines₁ m (outcomeText (outcomeValues o)) n lines₂) where
-    verdict : verdictOf s ≡ accepted (outcomeValues o)
-    verdict = sym (w .answer) ∙ rw q
-
-    whole-text : Wrote lines 0 (listingOf s) n lines₂
-    unfolding listingOf
-    whole-text =
-        let text : linesText (linesOn (onStudyDays (map recordOfBytes (partsOf s)))) ++ outcomeText (outcomeValues o) ≡ listingOf s = rw verdict in
-        as-text text (then (w .written (outcomeValues o) verdict .1) v)
-
-    pub text-fits : n ≤ longestListing
-    text-fits = omega (arith, lengths .listing s, whole-text .place)
-
-    pub lists-accepted : (page left : List ℕ) → length lines ≡ longestListing → left ≡ take n lines₂ ++ drop n page → Lists s page n left
-    unfolding pageOf
-    lists-accepted page left size e =
-        let done = from-start lines (listingOf s) lines₂ n (omega (arith, lengths .listing s, size)) whole-text in
-        let copy : take n lines₂ ≡ listingOf s =
-        ap (λ (k : ℕ). take k lines₂) (done .0) ∙ ap (take (length (listingOf s))) (done .1) ∙ take-append-seam (listingOf s) (drop (length (listingOf s)) lines) in
-        record { count = done .0; whole = e ∙ (λ i. copy i ++ drop (done .0 i) page) }
+  pub lists-accepted : (left : List ℕ) (n : ℕ) (o : OutcomeResult) → a ≡ F.Accepted o → Wrote page₁ m (outcomeText (outcomeValues o)) n left → Lists s page n left
+  unfolding listingOf pageOf
+  lists-accepted left n o q v =
+      let verdict : verdictOf s ≡ accepted (outcomeValues o) = sym (w .answer) ∙ rw q in
+      let text : w .text ++ outcomeText (outcomeValues o) ≡ listingOf s =
+      ap (λ (t : List ℕ). t ++ outcomeText (outcomeValues o)) (w .lines (outcomeValues o) verdict .1) ∙ rw verdict in
+      let done = from-start page (listingOf s) left n (omega (arith, lengths .listing s, size)) (as-text text (then (w .written) v)) in
+      record { count = done .0; whole = done .1 }
 
 -- the text is within the page
 pub within-page : (s page left : List ℕ) (n : ℕ) → Lists s page n left → n ≤ length left

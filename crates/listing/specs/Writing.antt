@@ -42,13 +42,14 @@ abbrev pub SmallIndex : Verdict → Type 0
 SmallIndex (refused n k) = k < 100000
 SmallIndex (accepted o) = Unit {0}
 
--- a file judged, with the lines of its visits written on the way, and no day told beyond the last; of a refused file nothing is said of the lines
-pub record JudgesInto (s lines : List ℕ) (a : FileAnswer) (n : ℕ) (left : List ℕ) : Type 0 where
+-- a file judged, with a text written on the way; of an accepted file it is the lines of its visits, and no day is told beyond the last
+pub record JudgesInto (s page : List ℕ) (a : FileAnswer) (n : ℕ) (left : List ℕ) : Type 0 where
   pub answer : fileValues a ≡ verdictOf s
   pub index : SmallIndex (fileValues a)
   pub within : n ≤ mostLines
-  pub written : (o : Outcome) → verdictOf s ≡ accepted o →
-      TellsWithin (outcome o) × Wrote lines 0 (linesText (linesOn (onStudyDays (map recordOfBytes (partsOf s))))) n left
+  pub text : List ℕ
+  pub written : Wrote page 0 text n left
+  pub lines : (o : Outcome) → verdictOf s ≡ accepted o → TellsWithin (outcome o) × (text ≡ linesText (linesOn (onStudyDays (map recordOfBytes (partsOf s)))))
 
 -- the promise of listing: how many bytes, and the whole page
 pub record Lists (s page : List ℕ) (n : ℕ) (left : List ℕ) : Type 0 where

@@ -15,34 +15,34 @@ mod outcomes; // outcomes.rt: the lines of the outcome, and the line of a refusa
 
 const RECORD_LENGTH: usize = 11;
 
-// A file judged, and how many bytes the lines of its visits take.
+// A file judged, and how many bytes the lines written so far take.
 struct JudgedLines {
     answer: FileAnswer,
     length: usize,
 }
 
-fn stopped(number: u8, index: usize) -> JudgedLines
-    ensures { λ x. ⌜ (fileValues (x .answer) ≡ refused number index) × (x .length ≡ 0) ⌝ }
+fn stopped(number: u8, index: usize, length: usize) -> JudgedLines
+    ensures { λ x. ⌜ (fileValues (x .answer) ≡ refused number index) × (x .length ≡ length) ⌝ }
 {
     JudgedLines {
         answer: FileAnswer::Refused(FileRefusal {
             number: number,
             index: index,
         }),
-        length: 0,
+        length: length,
     }
 }
 
-fn judge_into(bytes: &[u8], lines: &mut [u8]) -> JudgedLines
-    requires { ⌜ length (now lines) ≡ 96023 ⌝ }
-    ensures { λ x. ⌜ JudgesInto (now (bytes .entry)) (now (lines .entry)) (x .answer) (x .length) (now (lines .exit)) ⌝ }
+fn judge_into(bytes: &[u8], page: &mut [u8]) -> JudgedLines
+    requires { ⌜ length (now page) ≡ 96023 ⌝ }
+    ensures { λ x. ⌜ JudgesInto (now (bytes .entry)) (now (page .entry)) (x .answer) (x .length) (now (page .exit)) ⌝ }
 {
     if file::bad_length(bytes.len()) {
-        return stopped(13, 0);
+        return stopped(13, 0, 0);
     }
     let first = file::first_record(&bytes[0..11]);
     if first.number != 0 {
-        return stopped(first.number, 0);
+        return stopped(first.number, 0, 0);
     }
     let count = bytes.len() / RECORD_LENGTH;
     let mut subject = first.subject;
@@ -53,11 +53,11 @@ fn judge_into(bytes: &[u8], lines: &mut [u8]) -> JudgedLines
         let to = from + RECORD_LENGTH;
         let taken = file::later_record(subject, &bytes[from..to]);
         if taken.number != 0 {
-            return stopped(taken.number, k);
+            return stopped(taken.number, k, at);
         }
         let visit = taken.visit;
         let next = taken.subject;
-        at = visits::put_lines(lines, at, visit);
+        at = visits::put_lines(page, at, visit);
         subject = next;
         k += 1;
     }
@@ -79,19 +79,18 @@ fn copy(from: &[u8], page: &mut [u8], n: usize)
     }
 }
 
-// Room for the longest listing there can be, so that none is cut short.
+// Room for the longest listing there can be, so that none is cut short. Where a file is refused behind a visit, the page is restored first.
 pub fn list(bytes: &[u8], page: &mut [u8; 96023]) -> usize
     ensures { λ n. ⌜ Lists (now (bytes .entry)) (now (page .entry)) n (now (page .exit)) ⌝ }
 {
-    let mut text = [0u8; 96023];
-    let judged = judge_into(bytes, &mut text);
+    let before = *page;
+    let judged = judge_into(bytes, page);
     let answer = judged.answer;
     match answer {
-        FileAnswer::Refused(refusal) => outcomes::put_refusal(page, refusal),
-        FileAnswer::Accepted(outcome) => {
-            let n = outcomes::put_outcome(&mut text, judged.length, outcome);
-            copy(&text, page, n);
-            n
+        FileAnswer::Refused(refusal) => {
+            copy(&before, page, judged.length);
+            outcomes::put_refusal(page, refusal)
         }
+        FileAnswer::Accepted(outcome) => outcomes::put_outcome(page, judged.length, outcome),
     }
 }

@@ -11,12 +11,12 @@ use Rattle.listing.proofs.judge_into.Statement.{statement}
 use Rattle.listing.proofs.judge_into.Tie as tie
 
 abbrev Inv-loop : tie.InvT-loop
-Inv-loop bytes lines₀ count subject₀ at₀ k₀ lines subject at k =
-    (1 ≤ k) × (k ≤ count) × (count ≡ length bytes / 11) × (length bytes ≤ 44000) × (length lines ≡ length lines₀) × (at ≤ 24 * (k - 1)) ×
-    Printing bytes lines₀ lines subject at k
+Inv-loop bytes page₀ count subject₀ at₀ k₀ page subject at k =
+    (1 ≤ k) × (k ≤ count) × (count ≡ length bytes / 11) × (length bytes ≤ 44000) × (length page ≡ length page₀) × (at ≤ 24 * (k - 1)) ×
+    Printing bytes page₀ page subject at k
 
 abbrev μ-loop : tie.MeasureT-loop
-μ-loop bytes lines₀ count subject₀ at₀ k₀ lines subject at k = count - k
+μ-loop bytes page₀ count subject₀ at₀ k₀ page subject at k = count - k
 
 pub judge-into-spec : {M : Type 1} → statement M
 judge-into-spec =
@@ -26,13 +26,13 @@ judge-into-spec =
     μ-loop
     (λ c κs. search needs)
     (λ c κs. search needs)
-    (λ c. bad-into _ _ _ _ _ (sym (c .before .before .bad-length .ensures) ∙ c .before .if1 .taken) (c .stopped .ensures))
+    (λ c. bad-into _ _ _ _ _ (sym (c .before .before .bad-length .ensures) ∙ c .before .if1 .taken) refl (c .stopped .ensures))
     (λ c. search needs)
     (λ c. search needs)
     (λ c. let h = fair-length (length (c .before .before .before .before .args .bytes .now)) (sym (c .before .bad-length .ensures) ∙ c .if1 .left) in omega arith)
     (λ c κs. search needs)
     (λ c κs. search needs)
-    (λ c. first-into _ _ _ _ _ (sym (c .before .before .before .before .before .before .bad-length .ensures) ∙ c .before .before .before .before .before .if1 .left) _ (c .before .before .before .first-record .ensures) (c .before .if2 .taken) (c .stopped2 .ensures))
+    (λ c. first-into _ _ _ _ _ (sym (c .before .before .before .before .before .before .bad-length .ensures) ∙ c .before .before .before .before .before .if1 .left) refl _ (c .before .before .before .first-record .ensures) (c .before .if2 .taken) (c .stopped2 .ensures))
     (λ c. let h = fair-length (length (c .before .before .before .before .before .before .before .before .before .args .bytes .now)) (sym (c .before .before .before .before .before .before .bad-length .ensures) ∙ c .before .before .before .before .before .if1 .left) in (omega arith, omega arith, refl, h .2, refl, omega arith, first-printing _ _ (sym (c .before .before .before .before .before .before .bad-length .ensures) ∙ c .before .before .before .before .before .if1 .left) _ (c .before .before .before .first-record .ensures) (c .before .if2 .left)))
     (λ c. omega arith)
     (λ c. omega arith)
@@ -42,7 +42,9 @@ judge-into-spec =
     (λ c κs. search needs)
     (λ c κs. search needs)
     (λ c. c .before .before .before .before .before .before .loop .inv .4)
-    (λ c. turn-into _ _ _ _ _ _ _ (c .before .before .before .before .before .before .loop .inv .6 .standing) (c .before .before .before .before .before .loop-test .taken) (c .before .before .before .before .before .before .loop .inv .3) _ (c .before .before .before .later-record .ensures) (c .before .if3 .taken) (c .stopped3 .ensures))
+    (λ c.
+    let i = c .before .before .before .before .before .before .loop .inv in
+    turn-into _ _ _ _ _ _ _ _ (i .6) (c .before .before .before .before .before .loop-test .taken) (i .3) (omega (arith, i, c .before .before .before .before .before .loop-test .taken)) _ (c .before .before .before .later-record .ensures) (c .before .if3 .taken) (c .stopped3 .ensures))
     (λ c κs. (next-writable _ _ _ _ _ _ (c .before .before .before .before .before .before .before .loop .inv .6) (c .before .before .before .before .before .before .loop-test .taken) _ (c .before .before .before .before .later-record .ensures) (c .before .before .if3 .left) .0, let i = c .before .before .before .before .before .before .before .loop .inv in let t = c .before .before .before .before .before .before .loop-test .taken in let e = c .before .before .before .before .before .before .before .before .before .before .before .before .before .before .before .before .before .pre in omega (arith, i, t, e)))
     (λ c. omega arith)
     (λ c. omega arith)
