@@ -269,8 +269,14 @@ fn lengths() {
 }
 
 // The longest file is standard input: randomisation on 1990-01-01 with targets 40 and node 20 and non-target disease, and 3,999 visits, on
-// days 10,000 to 13,997 and 40,177, all (0, 0) and NN. In each other history the records stand in the order recorded, and randomisation is on
-// 2020-01-01.
+// days 10,000 to 13,997 and 40,177, all (0, 0) and NN. It is read in many chunks.
+fn longest_file() {
+    let mut bytes = io::large_buffer();
+    let read = input::read_input(&mut bytes);
+    longest(&bytes[..read.count]);
+}
+
+// In each history but the last the records stand in the order recorded, and randomisation is on 2020-01-01.
 fn main() {
     held_subjects();
     edges();
@@ -279,7 +285,5 @@ fn main() {
     later_refusals();
     lengths();
     bytes_of_one();
-    let mut input = io::large_buffer();
-    let n = io::read_full(libc::STDIN_FILENO, &mut input);
-    longest(&input[..n]);
+    longest_file();
 }

@@ -3,8 +3,6 @@
 ghost use mathlib.Core.Path.{_≡_};
 ghost use lib.ListN.{length};
 
-mod input; // input.rt: what standard input holds
-
 // Room for the longest listing there can be.
 fn blank_page() -> [u8; 96023]
     ensures { λ r. ⌜ 96023 ≡ length r ⌝ }

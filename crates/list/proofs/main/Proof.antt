@@ -11,12 +11,11 @@ main-spec =
     tie.close
     (tie.spec
     (λ c κs. search needs)
-    (λ c. search needs)
     (λ c κs. search needs)
     (λ c. search needs)
     (λ c κs. search needs)
     (λ c. search needs)
     (λ c. search needs)
-    (λ c. sym (length-take-le (c .before .before .before .read-input .result .count) (c .before .before .before .read-input .last .0) (c .before .before .before .read-input .ensures)))
+    (λ c. sym (length-take-le (c .before .before .read-input .result .count) (c .before .before .read-input .last .0) (c .before .before .read-input .ensures .within)))
     (λ c κs. search needs)
     (λ c. search needs))

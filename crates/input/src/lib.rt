@@ -1,20 +1,24 @@
-// What standard input holds, to its end or past the longest file.
+// What standard input holds, to its end or past the longest file (document 01, "Change in size, file and listing"). The programs `list` and
+// `examples` read by it.
 ghost use mathlib.Core.Path.{_≡_};
 ghost use Prim.Native.Nat.{_+_, _≤_};
 ghost use lib.ListN.{length};
+ghost use lib.Seq.{paste};
+ghost use Rattle.input.specs.Received.{Received};
 
 // A file has at most this many bytes, so that one byte more is enough to refuse it.
 const MOST_BYTES: usize = 44000;
 
-pub(crate) struct Input {
+pub struct Input {
     // A read failed.
-    pub(crate) failed: bool,
+    pub failed: bool,
     // How many bytes were read.
-    pub(crate) count: usize,
+    pub count: usize,
 }
 
 fn store(chunk: &[u8], n: usize, bytes: &mut [u8], at: usize)
     requires { ⌜ (n ≤ length (now chunk)) × (at + n ≤ length (now bytes)) ⌝ }
+    ensures { λ _. ⌜ now (bytes .exit) ≡ paste (now (bytes .entry)) at (now (chunk .entry)) n ⌝ }
 {
     let mut i: usize = 0;
     while i < n {
@@ -23,9 +27,9 @@ fn store(chunk: &[u8], n: usize, bytes: &mut [u8], at: usize)
     }
 }
 
-pub(crate) fn read_input(bytes: &mut [u8]) -> Input
+fn read_into(bytes: &mut [u8]) -> Input
     requires { ⌜ length (now bytes) ≡ 65536 ⌝ }
-    ensures { λ x. ⌜ x .count ≤ length (now (bytes .exit)) ⌝ }
+    ensures { λ x. ⌜ Received (now (bytes .entry)) x (now (bytes .exit)) ⌝ }
 {
     let mut space = io::buffer();
     let chunk: &mut [u8] = &mut space;
@@ -49,4 +53,11 @@ pub(crate) fn read_input(bytes: &mut [u8]) -> Input
         failed: false,
         count: count,
     }
+}
+
+// An endless input ends too, and a read that fails is told from an end of input.
+pub fn read_input(bytes: &mut [u8; 65536]) -> Input
+    ensures { λ x. ⌜ Received (now (bytes .entry)) x (now (bytes .exit)) ⌝ }
+{
+    read_into(bytes)
 }

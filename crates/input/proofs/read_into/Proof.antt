@@ -1,0 +1,39 @@
+-- `input::read_into` meets its contract: each read that is not the last brings a byte, so that it ends.
+-- Assumes nothing.
+use mathlib.Core.Path.{_≡_, refl}
+use Prim.Native.Nat.{_+_, _-_, _≤_}
+use borrow.Author.Needs.{needs}
+use native.Mathlib.Omega.{arith}
+use lib.ListN.{length, drop}
+use Rattle.input.proofs.Rest.{rest-kept}
+use Rattle.input.proofs.read_into.Statement.{statement}
+use Rattle.input.proofs.read_into.Tie as tie
+
+abbrev Inv-loop : tie.InvT-loop
+Inv-loop bytes₀ chunk₀ count₀ bytes chunk count =
+    (length chunk ≡ 4096) × (length bytes ≡ 65536) × (count ≤ 44000 + 4096) × (drop count bytes ≡ drop count bytes₀)
+
+abbrev μ-loop : tie.MeasureT-loop
+μ-loop bytes₀ chunk₀ count₀ bytes chunk count = 44001 - count
+
+pub read-into-spec : {M : Type 1} → statement M
+read-into-spec =
+    tie.close
+    (tie.spec
+    Inv-loop
+    μ-loop
+    (λ c κs. search needs)
+    (λ c. search needs)
+    (λ c. (search needs, search needs, search needs, refl))
+    (λ c κs. search needs)
+    (λ c. search needs)
+    (λ c. let i = c .before .before .before .before .before .before .before .loop .inv in record { within = omega (arith, i); rest = i .3 })
+    (λ c κs. search needs)
+    (λ c κs. (search needs, omega arith))
+    (λ c. omega arith)
+    (λ c. omega arith)
+    (λ c. let l = c .before .before .before .before .before .before .before .before .before .before .before .before .before .before .loop in (search needs, search needs, omega arith, rest-kept (c .before .before .before .before .before .before .before .before .before .before .before .before .before .before .before .before .before .before .args .bytes .now) (l .bytes) (c .before .before .before .before .before .before .before .before .before .before .before .read .last .1 .0) _ (l .count) (c .before .before .before .before .before .before .count .result) (c .before .before .store .ensures) (l .inv .3) (omega (arith, l .inv)) (search needs)))
+    (λ c. search needs)
+    (λ c. let i = c .before .before .loop .inv in record { within = omega (arith, i); rest = i .3 })
+    (λ c. search needs)
+    (λ c. let i = c .before .before .before .before .before .before .before .before .before .before .loop .inv in record { within = omega (arith, i); rest = i .3 }))
