@@ -2,5 +2,6 @@ pub mod Window
 pub mod Answers
 pub mod Parts
 pub mod ReadBack
+pub mod Found
 pub mod WrittenBack
 pub mod RoundTrip

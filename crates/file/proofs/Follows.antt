@@ -4,6 +4,7 @@
 use mathlib.Core.Path.{_≡_, refl, sym, _∙_, ap}
 use mathlib.Core.Bool.{Bool, true, false}
 use mathlib.Core.List.{List, [], _∷_, _++_}
+use mathlib.Core.Logic.{_⊎_, inl, inr}
 use Prim.Native.Nat.{ℕ}
 use native.Mathlib.Omega.{arith}
 use lib.Dec.{eqb}
@@ -16,7 +17,7 @@ use Rattle.records.specs.declared.Record.{Record}
 use Rattle.records.specs.Refusals.{refusalOf}
 use Rattle.codec.specs.Reading.{refusalOfBytes, recordOfBytes}
 use Rattle.codec.proofs.WrittenBack.{found-fine}
-use Rattle.endpoints.specs.Values.{dayValue}
+use Rattle.endpoints.specs.Values.{Outcome, dayValue}
 use Rattle.endpoints.specs.StudyRecords.{Baseline, baseline, fieldsPass, onStudyDays}
 use Rattle.endpoints.specs.Lawful.{Past}
 use Rattle.endpoints.specs.Visits.{counting}
@@ -32,7 +33,7 @@ use Rattle.opening.specs.Opening.{openNumber, subjectOf, openedSubject, Opened}
 use Rattle.opening.proofs.Follows.{opening-follows}
 use Rattle.placing.specs.declared.AddAnswer.{AddAnswer}
 use Rattle.outcome.specs.declared.OutcomeAnswer.{OutcomeAnswer}
-use Rattle.outcome.specs.Promises.{refusalOnDay, refusalHeld, nextSubject, Added, pfsHeld, durationHeld, outcomeOf, Reading, outcome, readingValues, Told}
+use Rattle.outcome.specs.Promises.{refusalOnDay, refusalHeld, nextSubject, Added, pfsHeld, durationHeld, outcomeOf, outcome, readingValues, Told}
 use Rattle.outcome.proofs.Follows.{pfs-held, duration-held, outcome-held}
 use Rattle.outcome.proofs.Within.{calls-in-range, reading-in-range}
 use Rattle.outcome.proofs.Runs.{some-refusal}
@@ -40,7 +41,6 @@ use Rattle.outcome.proofs.Demand.{first, base, past, Held, number, grown}
 use Rattle.file.specs.declared.FileAnswer.{FileAnswer}
 use Rattle.file.specs.declared.TakenRecord.{TakenRecord}
 use Rattle.file.specs.File.{afterReading, refusalOfPart, Verdict, refused, accepted, startsLate, verdictOn, fileValues}
-use Rattle.file.specs.Singly.{toldAs}
 use Rattle.file.specs.Taking.{TakesFirst, refusalTaking, Takes, verdictHeld, Ends}
 
 -- the subject is what is held after the records, which open with a baseline that 4 and 5 do not meet
@@ -148,6 +148,10 @@ module _ {rs : List Record} {s : Subject} (t : Taken rs s) (part : List ℕ) (x 
 
 -- ---- behind the last record
 
+-- 14, or the outcome that a reading tells
+abbrev pub EndsBy : Verdict → ℕ → OutcomeAnswer → Type 0
+EndsBy v last q = (v ≡ refused 14 last) ⊎ ((o : Outcome) × (readingValues q ≡ outcome o) × (v ≡ accepted o))
+
 module _ {rs : List Record} {s : Subject} (t : Taken rs s) (last : ℕ) where
   abbrev b : Baseline
   b = base (t .entry) (t .marks) (t .sizes)
@@ -175,13 +179,15 @@ module _ {rs : List Record} {s : Subject} (t : Taken rs s) (last : ℕ) where
       pick (startsLate (duration-held (t .entry .date) b p i) (first-held i) (pfs-held (t .entry .date) b p i)) (refused 14 last)
       (accepted (outcome-held (t .entry .date) b p i))
 
-  pub told-verdict : {q : OutcomeAnswer} → Told s q → verdictOn (onStudyDays rs) last
-      ≡ pick (startsLate (durationHeld s) (dayValue (s .counted .first)) (pfsHeld s)) (refused 14 last) (toldAs last (readingValues q))
-  told-verdict {q} w =
-      let read : readingValues q ≡ outcome (outcomeOf s) = w .answer ∙ reading-in-range s (t .held .inside) in
-      sym (ap verdictIn (t .held .same) ∙ verdict-held ∙ ap (λ (l : List Record). verdictOn (onStudyDays l) last) (sym (t .opens)))
-      ∙ ap (λ (y : Reading). pick (startsLate (durationHeld s) (dayValue (s .counted .first)) (pfsHeld s)) (refused 14 last) (toldAs last y)) (sym read)
+  verdict-taken : verdictIn s ≡ verdictOn (onStudyDays rs) last
+  verdict-taken = ap verdictIn (t .held .same) ∙ verdict-held ∙ ap (λ (l : List Record). verdictOn (onStudyDays l) last) (sym (t .opens))
+
+  pub told-verdict : {q : OutcomeAnswer} → Told s q → EndsBy (verdictOn (onStudyDays rs) last) last q
+  told-verdict {q} w = rw (← verdict-taken) (go (startsLate (durationHeld s) (dayValue (s .counted .first)) (pfsHeld s)))
+    where
+      go : (late : Bool) → EndsBy (pick late (refused 14 last) (accepted (outcomeOf s))) last q
+      go true = inl refl
+      go false = inr (outcomeOf s, w .answer ∙ reading-in-range s (t .held .inside), refl)
 
   pub ending : (a : FileAnswer) → Ends s last a → fileValues a ≡ verdictOn (onStudyDays rs) last
-  ending a w =
-      w .answer ∙ inside ∙ ap verdictIn (t .held .same) ∙ verdict-held ∙ ap (λ (l : List Record). verdictOn (onStudyDays l) last) (sym (t .opens))
+  ending a w = w .answer ∙ inside ∙ verdict-taken

@@ -1,5 +1,7 @@
 pub mod Verdicts
 pub mod Returns
+pub mod Cut
 pub mod Follows
 pub mod Loop
+pub mod Called
 pub mod Singly

@@ -1,34 +1,24 @@
 -- A turn of the loop over a file's records as a step of the recursion over its parts.
 -- Assumes nothing.
 use mathlib.Core.Path.{_≡_, sym, _∙_, ap}
-use mathlib.Core.Bool.{true, false, not}
+use mathlib.Core.Bool.{true, false}
 use mathlib.Core.List.{List, [], _∷_, _++_, map, append-assoc}
-use Prim.Native.Nat.{ℕ, suc, _+_, _-_, _*_, _/_, _%_, _≤_, _<_}
+use Prim.Native.Nat.{ℕ, suc, _+_, _-_, _*_, _/_, _≤_, _<_}
 use native.Mathlib.Numerals.{add-one}
 use native.Mathlib.Omega.{arith}
 use lib.Dec.{eqb}
-use borrow.Author.Tests.{eq-eqb, ne-eqb, eqb-true, eqb-false, ltb-false, not-false}
+use borrow.Author.Tests.{eq-eqb, ne-eqb}
 use lib.ListN.{length, take, drop}
 use lib.Seq.{drop-drop}
-use Rattle.laws.proofs.Tests.{either-false}
 use Rattle.records.specs.declared.Record.{Record}
-use Rattle.codec.specs.Bytes.{recordLength}
 use Rattle.codec.specs.Reading.{recordOfBytes}
 use Rattle.held.specs.declared.Subject.{Subject}
 use Rattle.file.specs.declared.FileAnswer.{FileAnswer}
 use Rattle.file.specs.declared.TakenRecord.{TakenRecord}
-use Rattle.file.specs.File.{mostBytes, badLength, parts, partsOf, refusalOfPart, refused, verdictFrom, verdictOf, fileValues, Judges}
+use Rattle.file.specs.File.{badLength, parts, partsOf, refusalOfPart, refused, verdictFrom, verdictOf, fileValues, Judges}
 use Rattle.file.specs.Taking.{TakesFirst, Takes, Ends}
+use Rattle.file.proofs.Cut.{one-part}
 use Rattle.file.proofs.Follows.{Taken, first-taken, later-number, later-taken, ending}
-
--- what 13 leaves
-pub fair-length : (n : ℕ) → badLength n ≡ false → (1 ≤ n) × (n % 11 ≡ 0) × (n ≤ mostBytes)
-unfolding badLength
-fair-length n e =
-    let some = either-false (eqb n 0) _ e in
-    let rest = either-false (not (eqb (n % recordLength) 0)) _ (some .1) in
-    let h = eqb-false n 0 (some .0) in
-    (omega arith, eqb-true (n % 11) 0 (not-false (eqb (n % 11) 0) (rest .0)), ltb-false mostBytes n (rest .1))
 
 -- the parts from index k on
 abbrev pub from : List ℕ → ℕ → List (List ℕ)
@@ -59,12 +49,9 @@ unfolding verdictOf
 bad l a h e = record { answer = e ∙ rw h }
 
 module _ (l : List ℕ) (fair : badLength (length l) ≡ false) where
-  pub one-part : length l / 11 ≡ suc (length l / 11 - 1)
-  one-part = let h = fair-length (length l) fair in omega arith
-
   pub all-parts : verdictOf l ≡ verdictFrom [] 0 (take 11 l ∷ from l 1)
   unfolding verdictOf
-  all-parts = rw fair (ap (λ (n : ℕ). verdictFrom [] 0 (parts n l)) one-part)
+  all-parts = rw fair (ap (λ (n : ℕ). verdictFrom [] 0 (parts n l)) (one-part l fair))
 
   pub first-refused : (x : TakenRecord) (a : FileAnswer) → TakesFirst (take 11 l) x → (x .number ≡ 0 → ⊥) → fileValues a ≡ refused (x .number) 0 → Judges l a
   first-refused x a w z e =
@@ -74,7 +61,7 @@ module _ (l : List ℕ) (fair : badLength (length l) ≡ false) where
   abbrev pub first-standing : (x : TakenRecord) → TakesFirst (take 11 l) x → x .number ≡ 0 → Standing l (x .subject) 1
   first-standing x w z =
       let none : eqb (refusalOfPart [] (take 11 l)) 0 ≡ true = eq-eqb _ 0 (sym (w .number) ∙ z) in
-      record { before = recordOfBytes (take 11 l) ∷ []; taken = first-taken (take 11 l) x w z; rest = all-parts ∙ rw none; all = ap (λ (n : ℕ). map recordOfBytes (parts n l)) (sym one-part) }
+      record { before = recordOfBytes (take 11 l) ∷ []; taken = first-taken (take 11 l) x w z; rest = all-parts ∙ rw none; all = ap (λ (n : ℕ). map recordOfBytes (parts n l)) (sym (one-part l fair)) }
 
 module _ (l : List ℕ) (s : Subject) (k : ℕ) (w : Standing l s k) where
   module _ (h : k < length l / 11) (x : TakenRecord) (v : Takes s (partAt l k) x) where

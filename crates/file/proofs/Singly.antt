@@ -3,17 +3,18 @@
 use mathlib.Core.Path.{_≡_, refl, sym, _∙_, ap, subst}
 use mathlib.Core.Bool.{Bool, true, false}
 use mathlib.Core.List.{List, [], _∷_, _++_}
-use Prim.Native.Nat.{ℕ, zero, suc, _+_, _-_, _/_}
+use mathlib.Core.Logic.{⊎-elim}
+use Prim.Native.Nat.{ℕ, suc, _+_, _-_, _/_}
 use native.Mathlib.Omega.{arith}
 use lib.Dec.{eqb}
 use borrow.Author.Tests.{eq-eqb, eqb-true}
-use lib.ListN.{length, drop}
+use lib.ListN.{length}
 use Rattle.laws.specs.Choice.{pick}
 use Rattle.records.specs.declared.Record.{Record}
 use Rattle.codec.specs.declared.ReadResult.{ReadResult}
 use Rattle.codec.specs.Bytes.{recordLength}
 use Rattle.codec.specs.Reading.{recordOfBytes, Reads}
-use Rattle.endpoints.specs.Values.{Outcome, dayValue}
+use Rattle.endpoints.specs.Values.{Outcome}
 use Rattle.endpoints.specs.StudyRecords.{onStudyDays}
 use Rattle.endpoints.specs.Adding.{notBaseline, refusalOfOpening, refusalOfAdding}
 use Rattle.endpoints.proofs.Calls.{none-of-both}
@@ -23,12 +24,14 @@ use Rattle.opening.specs.Opening.{openNumber, Opened}
 use Rattle.placing.specs.declared.AddAnswer.{AddAnswer}
 use Rattle.placing.specs.Refusals.{addNumber}
 use Rattle.outcome.specs.declared.OutcomeAnswer.{OutcomeAnswer}
-use Rattle.outcome.specs.Promises.{Added, Reading, refused as unread, outcome, readingValues, pfsHeld, durationHeld, Told}
+use Rattle.outcome.specs.Promises.{Added, outcome, readingValues, Told}
 use Rattle.outcome.proofs.Demand.{first, number, grown}
-use Rattle.file.specs.File.{badLength, parts, partsOf, afterReading, refusalOfPart, Verdict, refused, accepted, startsLate, verdictOn, verdictFrom, verdictOf}
-use Rattle.file.specs.Singly.{numberOf, Adds, none, adds, Singly, opens, Stop, never, at, firstRefusal, toldAs, AsSingly}
+use Rattle.file.specs.File.{badLength, partsOf, afterReading, refusalOfPart, Verdict, refused, accepted, verdictOn, verdictFrom, verdictOf}
+use Rattle.file.specs.Singly.{numberOf, Adds, none, adds, Singly, opens, Stop, never, at, firstRefusal, AsSingly}
 use Rattle.file.proofs.Verdicts.{apart, accepted-same}
-use Rattle.file.proofs.Follows.{Taken, none-read, opened-taken, told-verdict}
+use Rattle.file.proofs.Cut.{length-parts, cut}
+use Rattle.file.proofs.Called.{called}
+use Rattle.file.proofs.Follows.{Taken, none-read, opened-taken, EndsBy, told-verdict}
 
 -- reading's number, then the other, is the part's refusal
 read-then : (part : List ℕ) (x : ReadResult) (n m : ℕ) → Reads part x → n ≡ m → numberOf x n ≡ afterReading part m
@@ -136,10 +139,6 @@ module _ {s u : Subject} {part : List ℕ} {x : ReadResult} {a : OpenAnswer} {ps
 by-parts : {ps : List (List ℕ)} {ns : List ℕ} {t : Subject} → Singly ps ns t → EndedBy (firstRefusal 0 ns) 0 ps (verdictFrom [] 0 ps) t
 by-parts (opens w v c) = all-parts w v c
 
-length-parts : (n : ℕ) (s : List ℕ) → length (parts n s) ≡ n
-length-parts zero s = refl
-length-parts (suc n) s = ap suc (length-parts n (drop recordLength s))
-
 module _ (s : List ℕ) {ns : List ℕ} {t : Subject} (c : Singly (partsOf s) ns t) where
   judged : badLength (length s) ≡ false → EndedBy (firstRefusal 0 ns) 0 (partsOf s) (verdictOf s) t
   unfolding verdictOf
@@ -148,16 +147,11 @@ module _ (s : List ℕ) {ns : List ℕ} {t : Subject} (c : Singly (partsOf s) ns
   refuses : {n k : ℕ} → badLength (length s) ≡ false → firstRefusal 0 ns ≡ at n k → verdictOf s ≡ refused n k
   refuses fair e = subst (λ (stop : Stop). EndedBy stop 0 (partsOf s) (verdictOf s) t) e (judged fair)
 
-  otherwise : {q : OutcomeAnswer} → badLength (length s) ≡ false → firstRefusal 0 ns ≡ never → Told t q →
-      (late : Bool) × (verdictOf s ≡ pick late (refused 14 (length s / recordLength - 1)) (toldAs (length s / recordLength - 1) (readingValues q)))
+  otherwise : {q : OutcomeAnswer} → badLength (length s) ≡ false → firstRefusal 0 ns ≡ never → Told t q → EndsBy (verdictOf s) (length s / recordLength - 1) q
   otherwise fair e w =
       let end = subst (λ (stop : Stop). EndedBy stop 0 (partsOf s) (verdictOf s) t) e (judged fair) in
       let same : 0 + length (partsOf s) - 1 ≡ length s / recordLength - 1 = omega (arith, length-parts (length s / recordLength) s) in
-      (startsLate (durationHeld t) (dayValue (t .counted .first)) (pfsHeld t), end .verdict ∙ ap (verdictOn (onStudyDays (end .all))) same ∙ told-verdict (end .taken) (length s / recordLength - 1) w)
-
-told-back : (last : ℕ) (y : Reading) (o : Outcome) → toldAs last y ≡ accepted o → y ≡ outcome o
-told-back last (unread n) o e = absurd (apart refl e)
-told-back last (outcome said) o e = ap outcome (accepted-same e)
+      rw (end .verdict ∙ ap (verdictOn (onStudyDays (end .all))) same) (told-verdict (end .taken) (length s / recordLength - 1) w)
 
 module _ (s : List ℕ) {ns : List ℕ} {t : Subject} {q : OutcomeAnswer} {o : Outcome} (e : verdictOf s ≡ accepted o) (c : Singly (partsOf s) ns t) (w : Told t q) where
   fair : badLength (length s) ≡ false
@@ -168,20 +162,18 @@ module _ (s : List ℕ) {ns : List ℕ} {t : Subject} {q : OutcomeAnswer} {o : O
       go false h = refl
       go true h = absurd (let z : refused 13 0 ≡ accepted o = rw h at e in apart refl z)
 
-  not-late : (late : Bool) (last : ℕ) → verdictOf s ≡ pick late (refused 14 last) (toldAs last (readingValues q)) → readingValues q ≡ outcome o
-  not-late true last f = absurd (apart f e)
-  not-late false last f = told-back last (readingValues q) o (sym f ∙ e)
-
   accepts : (firstRefusal 0 ns ≡ never) × (readingValues q ≡ outcome o)
   accepts = go (firstRefusal 0 ns) refl
     where
       go : (stop : Stop) → firstRefusal 0 ns ≡ stop → (stop ≡ never) × (readingValues q ≡ outcome o)
-      go never h = let read = otherwise s c fair h w in (refl, not-late (read .0) (length s / recordLength - 1) (read .1))
+      go never h = (refl, ⊎-elim (λ late. absurd (apart late e)) (λ read. read .1 ∙ ap outcome (accepted-same (sym (read .2) ∙ e))) (otherwise s c fair h w))
       go (at n k) h = absurd (apart (refuses s c fair h) e)
 
 pub as-singly : AsSingly
 as-singly =
     record {
+      cut = cut;
+      called = called;
       accepts = λ s e c w. accepts s e c w;
       refuses = λ s fair c e. refuses s c fair e;
       otherwise = λ s fair c e w. otherwise s c fair e w;

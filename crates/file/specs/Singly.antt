@@ -3,12 +3,14 @@
 -- Proved in proofs/Singly.antt.
 -- Assumes nothing.
 use mathlib.Core.Path.{_≡_}
-use mathlib.Core.Bool.{Bool, false}
-use mathlib.Core.List.{List, [], _∷_}
+use mathlib.Core.Bool.{false}
+use mathlib.Core.List.{List, [], _∷_, _++_}
+use mathlib.Core.Logic.{_⊎_}
 use Prim.Native.Nat.{ℕ, suc, _-_, _/_}
 use lib.Dec.{eqb}
 use lib.ListN.{length}
 use Rattle.laws.specs.Choice.{pick}
+use Rattle.packing.specs.Layout.{AreBytes}
 use Rattle.codec.specs.Bytes.{recordLength}
 use Rattle.codec.specs.declared.ReadResult.{ReadResult}
 use Rattle.codec.specs.Reading.{readNumber, Reads}
@@ -19,8 +21,8 @@ use Rattle.opening.specs.Opening.{openNumber, Opened}
 use Rattle.placing.specs.declared.AddAnswer.{AddAnswer}
 use Rattle.placing.specs.Refusals.{addNumber}
 use Rattle.outcome.specs.declared.OutcomeAnswer.{OutcomeAnswer}
-use Rattle.outcome.specs.Promises.{Added, Reading, refused as unread, outcome, readingValues, Told}
-use Rattle.file.specs.File.{badLength, partsOf, Verdict, refused, accepted, verdictOf}
+use Rattle.outcome.specs.Promises.{Added, outcome, readingValues, Told}
+use Rattle.file.specs.File.{badLength, partsOf, refused, accepted, verdictOf}
 
 -- the number that reading gives, or, where that is 0, the number that opening or adding gives
 abbrev pub numberOf : ReadResult → ℕ → ℕ
@@ -46,16 +48,33 @@ abbrev pub firstRefusal : ℕ → List ℕ → Stop
 firstRefusal k [] = never
 firstRefusal k (n ∷ ns) = pick (eqb n 0) (firstRefusal (suc k) ns) (at n k)
 
--- what a reading tells, as a verdict
-abbrev pub toldAs : ℕ → Reading → Verdict
-toldAs last (unread n) = refused n last
-toldAs last (outcome o) = accepted o
+-- the parts one behind the other
+abbrev pub joined : List (List ℕ) → List ℕ
+joined [] = []
+joined (part ∷ ps) = part ++ joined ps
+
+-- each part has 11 bytes
+abbrev pub AllEleven : List (List ℕ) → Type 0
+AllEleven [] = Unit {0}
+AllEleven (part ∷ ps) = (length part ≡ recordLength) × AllEleven ps
+
+-- answers of the calls on a file's parts one by one, and of the reading behind them
+pub record Called (ps : List (List ℕ)) : Type 0 where
+  pub numbers : List ℕ
+  pub left : Subject
+  pub singly : Singly ps numbers left
+  pub told : OutcomeAnswer
+  pub reads : Told left told
 
 pub record AsSingly : Type 0 where
+  -- where 13 does not meet a file, its parts have 11 bytes each and joined are the file
+  pub cut : (s : List ℕ) → badLength (length s) ≡ false → (joined (partsOf s) ≡ s) × AllEleven (partsOf s)
+  -- and the calls have answers
+  pub called : (s : List ℕ) → AreBytes s → badLength (length s) ≡ false → Called (partsOf s)
   pub accepts : (s : List ℕ) {ns : List ℕ} {t : Subject} {q : OutcomeAnswer} {o : Outcome} → verdictOf s ≡ accepted o → Singly (partsOf s) ns t → Told t q →
       (firstRefusal 0 ns ≡ never) × (readingValues q ≡ outcome o)
   pub refuses : (s : List ℕ) {ns : List ℕ} {t : Subject} {n k : ℕ} → badLength (length s) ≡ false → Singly (partsOf s) ns t → firstRefusal 0 ns ≡ at n k →
       verdictOf s ≡ refused n k
-  -- and where no call refuses, it is the outcome read, or 14 with the index of the last record
+  -- and where no call refuses, it is 14 with the index of the last record, or the outcome read
   pub otherwise : (s : List ℕ) {ns : List ℕ} {t : Subject} {q : OutcomeAnswer} → badLength (length s) ≡ false → Singly (partsOf s) ns t → firstRefusal 0 ns ≡ never →
-      Told t q → (late : Bool) × (verdictOf s ≡ pick late (refused 14 (length s / recordLength - 1)) (toldAs (length s / recordLength - 1) (readingValues q)))
+      Told t q → (verdictOf s ≡ refused 14 (length s / recordLength - 1)) ⊎ ((o : Outcome) × (readingValues q ≡ outcome o) × (verdictOf s ≡ accepted o))

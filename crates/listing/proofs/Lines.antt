@@ -14,6 +14,7 @@ use Rattle.records.specs.declared.Entry.the-variants as E
 use Rattle.records.specs.declared.Record.{Record}
 use Rattle.records.specs.Refusals.{refusalOf}
 use Rattle.codec.specs.Reading.{recordOfBytes}
+use Rattle.codec.proofs.Found.{found-five}
 use Rattle.endpoints.specs.StudyRecords.{Baseline, StudyRecord, dayOf, entryOnStudyDay, onStudyDays}
 use Rattle.endpoints.specs.Lawful.{Past}
 use Rattle.endpoints.specs.Lines.{VisitLine, linesOf, visitLines}
@@ -33,7 +34,6 @@ use Rattle.file.specs.File.{refusalOfPart}
 use Rattle.file.specs.Taking.{refusalTaking, linesOnDay, Takes}
 use Rattle.file.proofs.Follows.{Taken, none-read, later-number}
 use Rattle.text.specs.Text.{visitText, linesText, linesOn}
-use Rattle.text.proofs.Found.{found-five}
 use Rattle.text.proofs.Lines.{AllShort, next-short}
 use Rattle.listing.specs.Writing.{AllWritable}
 

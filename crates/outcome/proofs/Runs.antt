@@ -31,7 +31,7 @@ use Rattle.outcome.specs.Demand3.{none, adds, reads, Runs}
 abbrev pub Some : {A W : Type 0} → (A → W) → W → Type 0
 Some {A} value v = (a : A) × (value a ≡ v)
 
-pick-some : {A W : Type 0} (value : A → W) (x : Bool) (v w : W) → Some value v → Some value w → Some value (pick x v w)
+pub pick-some : {A W : Type 0} (value : A → W) (x : Bool) (v w : W) → Some value v → Some value w → Some value (pick x v w)
 pick-some value true v w a b = a
 pick-some value false v w a b = b
 

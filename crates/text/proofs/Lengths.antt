@@ -3,7 +3,7 @@
 use mathlib.Core.Path.{_≡_, refl, sym, _∙_, ap, subst}
 use mathlib.Core.Bool.{Bool, true, false}
 use mathlib.Core.List.{List, [], _∷_, _++_, map, append-nil, append-assoc}
-use Prim.Native.Nat.{ℕ, zero, suc, _+_, _-_, _*_, _/_, _≤_}
+use Prim.Native.Nat.{ℕ, suc, _+_, _-_, _*_, _/_, _≤_}
 use native.Mathlib.Omega.{arith}
 use lib.Dec.{eqb}
 use lib.ListN.{length, drop, length-append, length-reverse, length-map}
@@ -13,6 +13,7 @@ use Rattle.records.specs.declared.BaselineEntry.{BaselineEntry}
 use Rattle.records.specs.declared.Record.{Record}
 use Rattle.codec.specs.Bytes.{recordLength}
 use Rattle.codec.specs.Reading.{recordOfBytes}
+use Rattle.codec.proofs.Found.{found-five}
 use Rattle.endpoints.specs.StudyRecords.{Baseline, baseline, fieldsPass, allPass, onStudyDays}
 use Rattle.endpoints.specs.Lawful.{Past, latestDay}
 use Rattle.endpoints.specs.Lines.{visitLines}
@@ -31,11 +32,10 @@ use Rattle.outcome.proofs.Runs.{opens, some-refusal, readable}
 use Rattle.outcome.proofs.Demand.{first, base, on-day, past, past-one-more, Held, grown, reading}
 use Rattle.file.specs.File.{badLength, parts, partsOf, refusalOfPart, refused, accepted, responseStartsLate, verdictFrom, verdictOf}
 use Rattle.file.proofs.Follows.{none-read, opened-taken}
-use Rattle.file.proofs.Loop.{fair-length}
+use Rattle.file.proofs.Cut.{fair-length, length-parts}
 use Rattle.text.specs.Text.{outcomeText, refusalText, linesText, listingText, listingOf, longestListing}
 use Rattle.text.specs.Laws.{Lengths}
 use Rattle.text.proofs.Numerals.{decimal-tells}
-use Rattle.text.proofs.Found.{found-five}
 use Rattle.text.proofs.Texts.{refusal-length, outcome-length}
 use Rattle.text.proofs.Lines.{line-short, visits-length}
 use Rattle.text.proofs.Refused.{part-small}
@@ -138,10 +138,6 @@ module _ (x : BaselineEntry) (marks : List Bool) (sizes : List ℕ) (passes : fi
       go false q more = omega (arith, refused-short (whole later) k part (omega arith))
 
 -- ---- the whole file
-
-length-parts : (n : ℕ) (s : List ℕ) → length (parts n s) ≡ n
-length-parts zero s = refl
-length-parts (suc n) s = ap suc (length-parts n (drop recordLength s))
 
 module _ (part : List ℕ) (ps : List (List ℕ)) (h : length ps ≤ 3999) where
   abbrev opening : Record

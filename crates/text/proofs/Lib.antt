@@ -1,6 +1,5 @@
 pub mod Examples
 pub mod Numerals
-pub mod Found
 pub mod Texts
 pub mod Changes
 pub mod Lines

@@ -1,0 +1,42 @@
+-- Where 13 does not meet a file, its parts have 11 bytes each and joined are the file.
+-- Assumes nothing.
+use mathlib.Core.Path.{_≡_, refl, _∙_, ap}
+use mathlib.Core.Bool.{false, not}
+use mathlib.Core.List.{List, [], _∷_, _++_}
+use Prim.Native.Nat.{ℕ, zero, suc, _-_, _*_, _/_, _%_, _≤_}
+use native.Mathlib.Omega.{arith}
+use lib.Dec.{eqb}
+use borrow.Author.Tests.{eqb-true, eqb-false, ltb-false, not-false}
+use lib.ListN.{length, take, drop, take-append-drop, length-drop}
+use lib.Seq.{length-take-le}
+use Rattle.laws.proofs.Tests.{either-false}
+use Rattle.codec.specs.Bytes.{recordLength}
+use Rattle.file.specs.File.{mostBytes, badLength, parts, partsOf}
+use Rattle.file.specs.Singly.{joined, AllEleven}
+
+-- what 13 leaves
+pub fair-length : (n : ℕ) → badLength n ≡ false → (1 ≤ n) × (n % 11 ≡ 0) × (n ≤ mostBytes)
+unfolding badLength
+fair-length n e =
+    let some = either-false (eqb n 0) _ e in
+    let rest = either-false (not (eqb (n % recordLength) 0)) _ (some .1) in
+    let h = eqb-false n 0 (some .0) in
+    (omega arith, eqb-true (n % 11) 0 (not-false (eqb (n % 11) 0) (rest .0)), ltb-false mostBytes n (rest .1))
+
+pub one-part : (s : List ℕ) → badLength (length s) ≡ false → length s / recordLength ≡ suc (length s / recordLength - 1)
+one-part s fair = let h = fair-length (length s) fair in omega arith
+
+-- n parts of a list of n * 11 bytes
+cut-parts : (n : ℕ) (s : List ℕ) → length s ≡ n * recordLength → (joined (parts n s) ≡ s) × AllEleven (parts n s)
+cut-parts zero [] e = (refl, tt)
+cut-parts zero (b ∷ s) e = absurd (let f : ⊥ = omega arith in f)
+cut-parts (suc n) s e =
+    let rest = cut-parts n (drop recordLength s) (simp length-drop (omega arith)) in
+    (ap (λ (l : List ℕ). take recordLength s ++ l) (rest .0) ∙ take-append-drop recordLength s, (length-take-le recordLength s (omega arith), rest .1))
+
+pub cut : (s : List ℕ) → badLength (length s) ≡ false → (joined (partsOf s) ≡ s) × AllEleven (partsOf s)
+cut s fair = cut-parts (length s / recordLength) s (let h = fair-length (length s) fair in omega arith)
+
+pub length-parts : (n : ℕ) (s : List ℕ) → length (parts n s) ≡ n
+length-parts zero s = refl
+length-parts (suc n) s = ap suc (length-parts n (drop recordLength s))
