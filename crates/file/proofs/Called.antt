@@ -5,11 +5,11 @@ use mathlib.Core.Bool.{Bool, true, false, not}
 use mathlib.Core.List.{List}
 use Prim.Native.Nat.{ℕ, zero, suc, _+_, _-_, _/_, _<_}
 use native.Mathlib.Omega.{arith}
-use lib.Dec.{ltb, leb, eqb}
+use lib.Dec.{ltb, eqb}
 use borrow.Author.Tests.{ltb-true, ltb-false}
 use lib.ListN.{getD, length, take, drop, List·getD-eq-default, length-take}
 use lib.Seq.{getD-take, getD-drop}
-use Rattle.laws.specs.Choice.{both, either}
+use Rattle.laws.specs.Choice.{either}
 use Rattle.packing.specs.Layout.{AreBytes}
 use Rattle.dates.specs.Calendar.{dateExists}
 use Rattle.records.specs.Form.{dateOf, Five}
@@ -17,7 +17,7 @@ use Rattle.records.specs.Refusals.{outsideLimits, notZero, firstOwn, refusalOfR
 use Rattle.codec.specs.declared.ReadAnswer.the-variants as R
 use Rattle.codec.specs.declared.ReadResult.{ReadResult}
 use Rattle.codec.specs.Bytes.{recordLength, bytesNumber}
-use Rattle.codec.specs.Reading.{readNumber, kindIn, rawIn, refusalOfNumber, refusalOfBytes, recordOfBytes, Reads}
+use Rattle.codec.specs.Reading.{readNumber, kindIn, rawIn, isKind, refusalOfNumber, refusalOfBytes, recordOfBytes, Reads}
 use Rattle.codec.proofs.Found.{found-five}
 use Rattle.held.specs.declared.Subject.{Subject}
 use Rattle.outcome.specs.Promises.{nextSubject}
@@ -37,7 +37,7 @@ unfolding refusalOfNumber refusalOfRead
 some-number n =
     let w = rawIn (kindIn n) n in
     let r = w .read in
-    pick-some readNumber (not (both (leb 1 (kindIn n)) (leb (kindIn n) 4))) 2 _ (R.NoSuchKind, refl)
+    pick-some readNumber (not (isKind (kindIn n))) 2 _ (R.NoSuchKind, refl)
     (some-own (not (dateExists (dateOf (r .entry)))) (either (w .unlawful) (outsideLimits (r .entry) (r .marks) (r .sizes)))
     (either (w .spare) (notZero (r .entry) (r .marks) (r .sizes))))
 

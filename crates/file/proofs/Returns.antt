@@ -7,10 +7,8 @@ use Prim.Native.Nat.{ℕ}
 use lib.Dec.{ltb, eqb}
 use borrow.Author.Tests.{eq-eqb, ne-eqb}
 use Rattle.laws.specs.Choice.{pick}
-use Rattle.dates.specs.declared.Date.{Date}
 use Rattle.dates.specs.declared.StudyDay.{StudyDay}
-use Rattle.records.specs.declared.Record.{Record}
-use Rattle.records.specs.Form.{dateOf, Five}
+use Rattle.records.specs.Form.{Five}
 use Rattle.codec.specs.declared.ReadResult.{ReadResult}
 use Rattle.codec.specs.Reading.{readNumber, refusalOfBytes, recordOfBytes, Reads}
 use Rattle.endpoints.specs.declared.MaybeDay.{MaybeDay}
@@ -27,13 +25,12 @@ use Rattle.opening.specs.declared.OpenAnswer.{OpenAnswer}
 use Rattle.opening.specs.Opening.{openNumber, openedSubject, Opened}
 use Rattle.placing.specs.declared.MaybeVisit.the-variants as J
 use Rattle.placing.specs.declared.PlaceResult.{PlaceResult}
-use Rattle.placing.specs.Added.{heldDay}
 use Rattle.placing.specs.Lines.{visitValues}
 use Rattle.placing.specs.Refusals.{addNumber, Places}
 use Rattle.outcome.specs.declared.OutcomeAnswer.{OutcomeAnswer}
 use Rattle.outcome.specs.declared.OutcomeAnswer.the-variants as R
 use Rattle.outcome.specs.declared.OutcomeResult.{OutcomeResult}
-use Rattle.outcome.specs.Promises.{Reading, refused, outcome, outcomeValues, dayOn, pfsHeld, durationHeld, outcomeOf, readingOf, Told}
+use Rattle.outcome.specs.Promises.{Reading, refused, outcome, outcomeValues, pfsHeld, durationHeld, outcomeOf, readingOf, Told}
 use Rattle.file.specs.declared.FileAnswer.{FileAnswer}
 use Rattle.file.specs.declared.FileAnswer.the-variants as F
 use Rattle.file.specs.declared.TakenRecord.{TakenRecord}
@@ -134,10 +131,6 @@ module _ (part : List ℕ) (x : ReadResult) (a : OpenAnswer) (s : Subject) (y : 
 
 -- ---- a later record
 
-pub placed-on-day : (s : Subject) (r : Record) (date : Date) (day : StudyDay) (x : PlaceResult) → date ≡ dateOf (r .entry) → day ≡ heldDay (s .randomisation) date →
-    Places s day r x → Places s (dayOn s r) r x
-placed-on-day s r date day x e d w = let q : day ≡ dayOn s r = d ∙ rw e in rw q at w
-
 module _ (s : Subject) (part : List ℕ) (x : ReadResult) (n : ℕ) (w : Reads part x) (nq : n ≡ readNumber (x .answer)) where
   pub later-unread : (y : TakenRecord) → (n ≡ 0 → ⊥) → (y .number ≡ n) × (y .subject ≡ s) × (y .visit ≡ J.Absent) → Takes s part y
   later-unread y z q =
@@ -150,12 +143,12 @@ module _ (s : Subject) (part : List ℕ) (x : ReadResult) (n : ℕ) (w : Reads p
         octets = w .octets;
       }
 
-  pub later-placed : (p : PlaceResult) (m : ℕ) → n ≡ 0 → Places s (dayOn s (x .found)) (x .found) p → m ≡ addNumber (p .added .answer) →
+  pub later-placed : (p : PlaceResult) (m : ℕ) → n ≡ 0 → Places s (x .found) p → m ≡ addNumber (p .added .answer) →
       Takes s part (record { number = m; subject = p .added .subject; visit = p .visit })
   later-placed p m z v mq =
       let e : refusalOfBytes part ≡ 0 = sym (w .answer) ∙ sym nq ∙ z in
       let read : eqb (refusalOfBytes part) 0 ≡ true = eq-eqb (refusalOfBytes part) 0 e in
-      let u : Places s (dayOn s (recordOfBytes part)) (recordOfBytes part) p = rw (w .found) at v in
+      let u : Places s (recordOfBytes part) p = rw (w .found) at v in
       record {
         number = mq ∙ u .answer ∙ rw read;
         left = u .left ∙ rw read;

@@ -13,8 +13,9 @@ use Rattle.endpoints.specs.Lines.{VisitLine}
 use Rattle.held.specs.declared.Subject.{Subject}
 use Rattle.held.specs.Range.{inRange}
 use Rattle.opening.specs.Opening.{openedSubject}
+use Rattle.placing.specs.Added.{dayOn}
 use Rattle.placing.specs.Lines.{visitValues, linesOn}
-use Rattle.outcome.specs.Promises.{dayOn, refusalOnDay, addedOnDay, pfsHeld, durationHeld, outcomeOf}
+use Rattle.outcome.specs.Promises.{refusalOnDay, addedOnDay, pfsHeld, durationHeld, outcomeOf}
 use Rattle.records.specs.Form.{Five}
 use Rattle.file.specs.declared.FileAnswer.{FileAnswer}
 use Rattle.file.specs.declared.TakenRecord.{TakenRecord}

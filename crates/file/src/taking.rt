@@ -4,12 +4,8 @@ use super::numbers::open_number;
 use super::numbers::read_number;
 use held::Subject;
 use placing::MaybeVisit;
-use placing::PlaceResult;
-use records::Record;
 ghost use mathlib.Core.Path.{_≡_};
 ghost use Rattle.placing.specs.declared.MaybeVisit.the-variants as J;
-ghost use Rattle.placing.specs.Refusals.{Places};
-ghost use Rattle.outcome.specs.Promises.{dayOn};
 ghost use Rattle.file.specs.Taking.{TakesFirst, Takes};
 
 fn without_visit(number: u8, subject: Subject) -> TakenRecord
@@ -38,16 +34,6 @@ pub fn first_record(part: &[u8]) -> TakenRecord
     without_visit(open_number(unopened), subject)
 }
 
-// Placed on the study day of its date.
-fn placed(s: Subject, r: Record) -> PlaceResult
-    ensures { λ x. ⌜ Places s (dayOn s r) r x ⌝ }
-{
-    let entry = r.entry;
-    let date = records::date_of(entry);
-    let day = placing::held_day(s.randomisation, date);
-    placing::place(s, day, r)
-}
-
 pub fn later_record(s: Subject, part: &[u8]) -> TakenRecord
     ensures { λ x. ⌜ Takes s (now (part .entry)) x ⌝ }
 {
@@ -58,7 +44,7 @@ pub fn later_record(s: Subject, part: &[u8]) -> TakenRecord
     if unread != 0 {
         return without_visit(unread, s);
     }
-    let result = placed(s, found);
+    let result = placing::place(s, found);
     let added = result.added;
     let refusal = added.answer;
     let subject = added.subject;

@@ -7,12 +7,10 @@ use native.Mathlib.Omega.{arith}
 use lib.Dec.{leb, eqb}
 use borrow.Author.Tests.{ne-eqb, not-true, not-false}
 use Rattle.laws.specs.Choice.{pick}
-use Rattle.dates.specs.declared.Date.{Date}
 use Rattle.dates.specs.declared.StudyDay.{StudyDay}
 use Rattle.records.specs.declared.Record.{Record}
 use Rattle.records.specs.declared.CheckAnswer.{CheckAnswer}
 use Rattle.records.specs.declared.CheckAnswer.the-variants as C
-use Rattle.records.specs.Form.{dateOf}
 use Rattle.records.specs.Refusals.{checkNumber, refusalOf}
 use Rattle.endpoints.specs.declared.PfsResult.{PfsResult}
 use Rattle.endpoints.specs.declared.BestResponse.{BestResponse}
@@ -28,18 +26,12 @@ use Rattle.held.specs.Range.{inRange}
 use Rattle.placing.specs.declared.AddAnswer.{AddAnswer}
 use Rattle.placing.specs.declared.AddAnswer.the-variants as A
 use Rattle.placing.specs.declared.AddResult.{AddResult}
-use Rattle.placing.specs.declared.PlaceResult.{PlaceResult}
-use Rattle.placing.specs.Added.{heldDay}
-use Rattle.placing.specs.Refusals.{addNumber, Places}
+use Rattle.placing.specs.Refusals.{addNumber}
 use Rattle.outcome.specs.declared.OutcomeResult.{OutcomeResult}
 use Rattle.outcome.specs.declared.OutcomeAnswer.the-variants as R
-use Rattle.outcome.specs.Promises.{dayOn, refusalOnDay, addedOnDay, refusalHeld, nextSubject, Added, outcomeValues, outcomeOf, readingOf, Told}
+use Rattle.outcome.specs.Promises.{refusalOnDay, addedOnDay, refusalHeld, nextSubject, Added, outcomeValues, outcomeOf, readingOf, Told}
 
 -- ---- adding
-
-pub placed-on-day : (s : Subject) (r : Record) (date : Date) (day : StudyDay) (x : PlaceResult) → date ≡ dateOf (r .entry) → day ≡ heldDay (s .randomisation) date →
-    Places s day r x → (addNumber (x .added .answer) ≡ refusalOnDay s r) × (x .added .subject ≡ pick (eqb (refusalOnDay s r) 0) (addedOnDay s r) s)
-placed-on-day s r date day x e d w = let q : day ≡ dayOn s r = d ∙ rw e in (rw q at (w .answer), rw q at (w .left))
 
 module _ (s : Subject) (r : Record) (inside : Bool) (iq : inside ≡ inRange s) where
   not-added : (x : AddResult) (a : AddAnswer) (n : ℕ) → addNumber a ≡ suc n → refusalHeld s r ≡ suc n → (x .answer ≡ a) × (x .subject ≡ s) →

@@ -21,10 +21,11 @@ use Rattle.opening.specs.declared.OpenAnswer.the-variants as N
 use Rattle.opening.specs.Opening.{openNumber, openedSubject, Opened}
 use Rattle.held.specs.Range.{inRange}
 use Rattle.placing.specs.declared.AddAnswer.the-variants as A
+use Rattle.placing.specs.Added.{dayOn}
 use Rattle.placing.specs.Refusals.{addNumber, earlyOn, misfitOn, refusalOn}
 use Rattle.outcome.specs.declared.OutcomeAnswer.{OutcomeAnswer}
 use Rattle.outcome.specs.declared.OutcomeAnswer.the-variants as R
-use Rattle.outcome.specs.Promises.{dayOn, refusalOnDay, refusalHeld, nextSubject, pfsHeld, durationHeld, outcomeOf, readingOf, Told}
+use Rattle.outcome.specs.Promises.{refusalOnDay, refusalHeld, nextSubject, pfsHeld, durationHeld, outcomeOf, readingOf, Told}
 use Rattle.outcome.specs.Demand3.{none, adds, reads, Runs}
 
 -- some case of a declared answer has the value

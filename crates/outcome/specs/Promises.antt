@@ -5,9 +5,7 @@ use mathlib.Core.Bool.{Bool}
 use Prim.Native.Nat.{ℕ}
 use lib.Dec.{eqb}
 use Rattle.laws.specs.Choice.{pick}
-use Rattle.dates.specs.declared.StudyDay.{StudyDay}
 use Rattle.records.specs.declared.Record.{Record}
-use Rattle.records.specs.Form.{dateOf}
 use Rattle.criteria.specs.Words.{Word}
 use Rattle.endpoints.specs.Values.{isRecorded, Pfs, Duration, Outcome, dayValue, pfsValues, bestWord, durationValues}
 use Rattle.endpoints.specs.Pfs.{pfsOf}
@@ -17,7 +15,7 @@ use Rattle.endpoints.specs.Adding.{afterOwn}
 use Rattle.held.specs.declared.Subject.{Subject}
 use Rattle.held.specs.Range.{inRange}
 use Rattle.placing.specs.declared.AddAnswer.{AddAnswer}
-use Rattle.placing.specs.Added.{heldDay, entryAdded}
+use Rattle.placing.specs.Added.{dayOn, entryAdded}
 use Rattle.placing.specs.Refusals.{addNumber, refusalOn}
 use Rattle.outcome.specs.declared.OutcomeResult.{OutcomeResult}
 use Rattle.outcome.specs.declared.OutcomeAnswer.{OutcomeAnswer}
@@ -25,11 +23,7 @@ use Rattle.outcome.specs.declared.OutcomeAnswer.the-variants as A
 
 -- ---- adding
 
--- the study day of a record; 0, which is no study day, where its date has none
-abbrev pub dayOn : Subject → Record → StudyDay
-dayOn s r = heldDay (s .randomisation) (dateOf (r .entry))
-
--- 8 to 11, and the subject after a record
+-- 8 to 11, and the subject after a record, on the study day of its date
 abbrev pub refusalOnDay : Subject → Record → ℕ
 refusalOnDay s r = refusalOn s (dayOn s r) (r .entry) (r .marks)
 

@@ -23,10 +23,7 @@ fn refused(s: Subject, answer: AddAnswer) -> AddResult
 fn placed(s: Subject, r: Record) -> AddResult
     ensures { λ x. ⌜ (addNumber (x .answer) ≡ refusalOnDay s r) × (x .subject ≡ pick (eqb (refusalOnDay s r) 0) (addedOnDay s r) s) ⌝ }
 {
-    let entry = r.entry;
-    let date = records::date_of(entry);
-    let day = placing::held_day(s.randomisation, date);
-    let result = placing::place(s, day, r);
+    let result = placing::place(s, r);
     result.added
 }
 

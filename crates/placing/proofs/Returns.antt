@@ -19,7 +19,8 @@ use Rattle.records.specs.declared.Entry.{Entry}
 use Rattle.records.specs.declared.Entry.the-variants as E
 use Rattle.records.specs.declared.BaselineEntry.{BaselineEntry}
 use Rattle.records.specs.declared.VisitEntry.{VisitEntry}
-use Rattle.records.specs.Form.{statusNumber}
+use Rattle.records.specs.declared.Record.{Record}
+use Rattle.records.specs.Form.{dateOf, statusNumber}
 use Rattle.criteria.specs.declared.Overall.{Overall}
 use Rattle.criteria.specs.Words.{statusWord, overallWord}
 use Rattle.response.specs.declared.VisitAnswer.{VisitAnswer}
@@ -36,9 +37,9 @@ use Rattle.placing.specs.declared.JudgedVisit.{JudgedVisit}
 use Rattle.placing.specs.declared.MaybeVisit.the-variants as J
 use Rattle.placing.specs.declared.PlaceResult.{PlaceResult}
 use Rattle.held.specs.Visits.{eventAfter, countedAfter}
-use Rattle.placing.specs.Added.{heldDay, answerOn, visitAdded, therapyAdded, deathAdded}
+use Rattle.placing.specs.Added.{heldDay, dayOn, answerOn, visitAdded, therapyAdded, deathAdded}
 use Rattle.placing.specs.Lines.{judgedValues, visitValues, lineJudged, lineOn, Advanced}
-use Rattle.placing.specs.Refusals.{addNumber, refusalBy, refusalOn, Behind, PlacesEntry}
+use Rattle.placing.specs.Refusals.{addNumber, refusalBy, refusalOn, Behind, PlacesEntry, Places}
 
 -- ---- whether a status is NA
 
@@ -107,6 +108,10 @@ module _ (randomisation d : Date) (a : StudyDayAnswer) (e : studyDayValues a ≡
 
   pub day-of-none : a ≡ T.NoSuchDate → record { 0 = 0 } ≡ heldDay randomisation d
   day-of-none q = let h : _≡_ {A = ℕ} 0 (studyDayOf d randomisation .day) = rw q at (ap (λ (n : Counted). n .day) e) in ap (λ (n : ℕ). record { 0 = n }) h
+
+pub on-its-day : (s : Subject) (r : Record) (date : Date) (day : StudyDay) (x : PlaceResult) → date ≡ dateOf (r .entry) → day ≡ heldDay (s .randomisation) date →
+    PlacesEntry s day (r .entry) (r .marks) (r .sizes) x → Places s r x
+on-its-day s r date day x e d w = let q : day ≡ dayOn s r = d ∙ rw e in rw q at w
 
 -- ---- the line of a visit
 

@@ -9,6 +9,8 @@ use Rattle.dates.specs.declared.StudyDay.{StudyDay}
 use Rattle.records.specs.declared.Entry.{Entry}
 use Rattle.records.specs.declared.Entry.the-variants as E
 use Rattle.records.specs.declared.VisitEntry.{VisitEntry}
+use Rattle.records.specs.declared.Record.{Record}
+use Rattle.records.specs.Form.{dateOf}
 use Rattle.criteria.specs.Words.{Word, statusWord}
 use Rattle.criteria.specs.Targets.{targetAnswer}
 use Rattle.criteria.specs.Nadir.{afterVisit}
@@ -22,6 +24,9 @@ use Rattle.held.specs.Visits.{eventAfter, countedAfter}
 -- the study day of a date; 0, which is no study day, where it is before randomisation or either of them does not exist
 abbrev pub heldDay : Date → Date → StudyDay
 heldDay randomisation d = record { 0 = studyDay randomisation d }
+
+abbrev pub dayOn : Subject → Record → StudyDay
+dayOn s r = heldDay (s .randomisation) (dateOf (r .entry))
 
 -- the overall answer at a visit
 unfoldable pub answerOn : Subject → VisitEntry → List Bool → List ℕ → Word

@@ -18,7 +18,7 @@ use Rattle.held.specs.declared.Subject.{Subject}
 use Rattle.placing.specs.declared.AddAnswer.{AddAnswer}
 use Rattle.placing.specs.declared.AddAnswer.the-variants as A
 use Rattle.placing.specs.declared.PlaceResult.{PlaceResult}
-use Rattle.placing.specs.Added.{entryAdded}
+use Rattle.placing.specs.Added.{dayOn, entryAdded}
 use Rattle.placing.specs.Lines.{visitValues, linesOn}
 
 -- the number of each case in document 01; 0 where no refusal meets
@@ -60,9 +60,10 @@ pub record Behind (s next : Subject) (lines : List VisitLine) (refusal : ℕ) (x
   pub left : x .added .subject ≡ pick (eqb refusal 0) next s
   pub shown : visitValues (x .visit) ≡ pick (eqb refusal 0) lines []
 
--- of a record that none of its own refusals meets, on its study day: the first of 8 to 11
+-- of a record that none of its own refusals meets, on a study day: the first of 8 to 11
 abbrev pub PlacesEntry : Subject → StudyDay → Entry → List Bool → List ℕ → PlaceResult → Type 0
 PlacesEntry s day e marks sizes x = Behind s (entryAdded s day e marks sizes) (linesOn s day e marks sizes) (refusalOn s day e marks) x
 
-abbrev pub Places : Subject → StudyDay → Record → PlaceResult → Type 0
-Places s day r x = PlacesEntry s day (r .entry) (r .marks) (r .sizes) x
+-- on the study day of its date
+abbrev pub Places : Subject → Record → PlaceResult → Type 0
+Places s r x = PlacesEntry s (dayOn s r) (r .entry) (r .marks) (r .sizes) x

@@ -13,7 +13,6 @@ mod fitting; // fitting.rt: whether a visit fits the baseline
 mod added; // added.rt: the subject after a record
 mod refusals; // refusals.rt: 8 to 11
 
-pub use refusals::held_day;
 pub use refusals::place;
 
 // What adding answers.

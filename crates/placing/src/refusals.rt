@@ -28,7 +28,7 @@ ghost use Rattle.placing.specs.Lines.{Advanced};
 ghost use Rattle.placing.specs.Refusals.{addNumber, refusalBy, PlacesEntry, Places};
 
 // The study day of a date; 0, which is no study day, where there is none.
-pub fn held_day(randomisation: Date, date: Date) -> StudyDay
+fn held_day(randomisation: Date, date: Date) -> StudyDay
     ensures { λ r. ⌜ r ≡ heldDay randomisation date ⌝ }
 {
     match dates::study_day(date, randomisation) {
@@ -127,9 +127,9 @@ fn place_death(s: Subject, day: StudyDay, date: Date) -> PlaceResult
     advanced(dead)
 }
 
-// The record's own refusals are judged before, and the caller found the study day of its date. A therapy and a death have nothing beside the date.
-pub fn place(s: Subject, day: StudyDay, r: Record) -> PlaceResult
-    ensures { λ x. ⌜ Places s day r x ⌝ }
+// A therapy and a death have nothing beside the date.
+fn place_on(s: Subject, day: StudyDay, r: Record) -> PlaceResult
+    ensures { λ x. ⌜ PlacesEntry s day (r .entry) (r .marks) (r .sizes) x ⌝ }
 {
     let entry = r.entry;
     let marks = r.marks;
@@ -140,4 +140,13 @@ pub fn place(s: Subject, day: StudyDay, r: Record) -> PlaceResult
         Entry::Therapy(date) => place_therapy(s, day, date),
         Entry::Death(date) => place_death(s, day, date),
     }
+}
+
+// The record's own refusals are judged before, and so is 12.
+pub fn place(s: Subject, r: Record) -> PlaceResult
+    ensures { λ x. ⌜ Places s r x ⌝ }
+{
+    let entry = r.entry;
+    let day = held_day(s.randomisation, records::date_of(entry));
+    place_on(s, day, r)
 }

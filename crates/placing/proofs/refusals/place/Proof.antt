@@ -1,7 +1,7 @@
 -- `placing::refusals::place` meets its contract.
 -- Assumes nothing.
 use borrow.Author.Needs.{needs}
-use Rattle.placing.proofs.Returns.{second-baseline, of-visit, of-therapy, of-death}
+use Rattle.placing.proofs.Returns.{on-its-day}
 use Rattle.placing.proofs.refusals.place.Statement.{statement}
 use Rattle.placing.proofs.refusals.place.Tie as tie
 
@@ -9,15 +9,7 @@ pub place-spec : {M : Type 1} → statement M
 place-spec =
     tie.close
     (tie.spec
-    (λ c. search needs)
     (λ c κs. search needs)
-    (λ c. search needs)
     (λ c κs. search needs)
-    (λ c. search needs)
     (λ c κs. search needs)
-    (λ c. search needs)
-    (λ c κs. search needs)
-    (λ c. search second-baseline)
-    (λ c. search of-visit)
-    (λ c. search of-therapy)
-    (λ c. search of-death))
+    (λ c. on-its-day _ _ _ _ _ (c .before .before .date-of .ensures) (c .before .held-day .ensures) (c .place-on .ensures)))

@@ -1,0 +1,23 @@
+-- `placing::refusals::place_on` meets its contract.
+-- Assumes nothing.
+use borrow.Author.Needs.{needs}
+use Rattle.placing.proofs.Returns.{second-baseline, of-visit, of-therapy, of-death}
+use Rattle.placing.proofs.refusals.place_on.Statement.{statement}
+use Rattle.placing.proofs.refusals.place_on.Tie as tie
+
+pub place-on-spec : {M : Type 1} → statement M
+place-on-spec =
+    tie.close
+    (tie.spec
+    (λ c. search needs)
+    (λ c κs. search needs)
+    (λ c. search needs)
+    (λ c κs. search needs)
+    (λ c. search needs)
+    (λ c κs. search needs)
+    (λ c. search needs)
+    (λ c κs. search needs)
+    (λ c. search second-baseline)
+    (λ c. search of-visit)
+    (λ c. search of-therapy)
+    (λ c. search of-death))
