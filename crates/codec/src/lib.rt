@@ -45,7 +45,7 @@ pub(crate) struct Raw {
     pub(crate) spare: bool,
 }
 
-const RECORD_LENGTH: usize = 11;
+pub const RECORD_LENGTH: usize = 11;
 
 fn refused(answer: ReadAnswer) -> ReadResult
     ensures { λ x. ⌜ (x .answer ≡ answer) × (x .found ≡ blank) ⌝ }

@@ -9,7 +9,7 @@ use Rattle.endpoints.specs.Adding.{refusalOfOpening, Call, add, read, accepted}
 use Rattle.outcome.specs.declared.OutcomeAnswer.{OutcomeAnswer}
 use Rattle.outcome.specs.Promises.{refused, readingValues}
 use Rattle.outcome.specs.Demand3.{Claim}
-use Rattle.file.specs.File.{partsOf}
+use Rattle.parts.specs.Parts.{partsOf}
 
 -- the records of a byte string; bytes behind the last whole part are left
 abbrev pub recordsIn : List ℕ → List Record

@@ -1,21 +1,12 @@
 // Replays of calls, and the same records as a file and its listing, with what they print held to the file `stdout`, which is worked out by
 // hand from document 01. Of each history: the numbers of the answers of opening and adding, 0 where done, and the lines P, B, D and S of
 // the last reading, or R and its number; behind F what judging the file answers; then its listing.
-ghost use mathlib.Core.Path.{_≡_};
-ghost use lib.ListN.{length};
 
 mod replay; // replay.rt: the calls that a byte string makes
 mod print; // print.rt: the numbers of answers, and the outcome in the lines of the listing
 
-// Room for the longest listing there can be.
-fn blank_page() -> [u8; 96023]
-    ensures { λ r. ⌜ 96023 ≡ length r ⌝ }
-{
-    [0; 96023]
-}
-
 fn listing(bytes: &[u8]) {
-    let mut page = blank_page();
+    let mut page = listing::blank_page();
     let n = listing::list(bytes, &mut page);
     print::text(&page[..n]);
 }
@@ -58,7 +49,7 @@ fn ends(text: &[u8]) {
 fn longest(bytes: &[u8]) {
     replayed(b"the longest file\n", bytes);
     judged(bytes);
-    let mut page = blank_page();
+    let mut page = listing::blank_page();
     let n = listing::list(bytes, &mut page);
     ends(&page[..n]);
 }

@@ -1,13 +1,12 @@
 // A replay of calls: a subject opened with the first record of a byte string, each further one added to it, refused or not, and its outcome
 // read after each. The answers are printed as they come.
 use super::print;
+use codec::RECORD_LENGTH;
 use outcome::OutcomeAnswer;
 use records::Record;
 ghost use mathlib.Core.Path.{_≡_};
 ghost use Rattle.codec.specs.Reading.{recordOfBytes};
 ghost use Rattle.examples.specs.Replay.{recordsIn, Replayed};
-
-const RECORD_LENGTH: usize = 11;
 
 // The record in 11 bytes; the blank one, which opening and adding refuse by 3, where reading refuses them.
 fn record_in(part: &[u8]) -> Record

@@ -22,9 +22,9 @@ use Rattle.codec.proofs.Found.{found-five}
 use Rattle.held.specs.declared.Subject.{Subject}
 use Rattle.outcome.specs.Promises.{nextSubject}
 use Rattle.outcome.proofs.Runs.{Some, pick-some, some-refusal, opens as some-opening, readable}
-use Rattle.file.specs.File.{badLength, parts, partsOf}
+use Rattle.parts.specs.Parts.{badLength, parts, partsOf}
 use Rattle.file.specs.Singly.{Adds, none, adds, opens, Called}
-use Rattle.file.proofs.Cut.{one-part}
+use Rattle.parts.proofs.Cut.{one-part}
 
 -- each number that refuses bytes, and 0, is that of some case of reading's answer
 some-own : (noDate outside set : Bool) → Some readNumber (firstOwn noDate outside set)

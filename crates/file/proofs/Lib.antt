@@ -1,6 +1,5 @@
 pub mod Verdicts
 pub mod Returns
-pub mod Cut
 pub mod Follows
 pub mod Loop
 pub mod Called

@@ -15,9 +15,10 @@ use Rattle.codec.specs.Reading.{recordOfBytes}
 use Rattle.held.specs.declared.Subject.{Subject}
 use Rattle.file.specs.declared.FileAnswer.{FileAnswer}
 use Rattle.file.specs.declared.TakenRecord.{TakenRecord}
-use Rattle.file.specs.File.{badLength, parts, partsOf, refusalOfPart, refused, verdictFrom, verdictOf, fileValues, Judges}
+use Rattle.parts.specs.Parts.{badLength, parts, partsOf}
+use Rattle.file.specs.File.{refusalOfPart, refused, verdictFrom, verdictOf, fileValues, Judges}
 use Rattle.file.specs.Taking.{TakesFirst, Takes, Ends}
-use Rattle.file.proofs.Cut.{one-part}
+use Rattle.parts.proofs.Cut.{one-part}
 use Rattle.file.proofs.Follows.{Taken, first-taken, later-number, later-taken, ending}
 
 -- the parts from index k on

@@ -26,10 +26,11 @@ use Rattle.placing.specs.Refusals.{addNumber}
 use Rattle.outcome.specs.declared.OutcomeAnswer.{OutcomeAnswer}
 use Rattle.outcome.specs.Promises.{Added, outcome, readingValues, Told}
 use Rattle.outcome.proofs.Demand.{first, number, grown}
-use Rattle.file.specs.File.{badLength, partsOf, afterReading, refusalOfPart, Verdict, refused, accepted, verdictOn, verdictFrom, verdictOf}
+use Rattle.parts.specs.Parts.{badLength, partsOf}
+use Rattle.file.specs.File.{afterReading, refusalOfPart, Verdict, refused, accepted, verdictOn, verdictFrom, verdictOf}
 use Rattle.file.specs.Singly.{numberOf, Adds, none, adds, Singly, opens, Stop, never, at, firstRefusal, AsSingly}
 use Rattle.file.proofs.Verdicts.{apart, accepted-same}
-use Rattle.file.proofs.Cut.{length-parts, cut}
+use Rattle.parts.proofs.Cut.{length-parts, cut}
 use Rattle.file.proofs.Called.{called}
 use Rattle.file.proofs.Follows.{Taken, none-read, opened-taken, EndsBy, told-verdict}
 

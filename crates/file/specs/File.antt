@@ -1,15 +1,15 @@
 -- Document 01, "Change in size, file and listing" and "Where a call stops", 13 and 14: a file of records judged, by the definitions on lists.
 -- Assumes nothing.
 use mathlib.Core.Path.{_≡_}
-use mathlib.Core.Bool.{Bool, false, not}
+use mathlib.Core.Bool.{Bool, false}
 use mathlib.Core.List.{List, [], _∷_, _++_, reverse}
-use Prim.Native.Nat.{ℕ, zero, suc, _-_, _/_, _%_}
+use Prim.Native.Nat.{ℕ, suc, _-_}
 use lib.Dec.{ltb, eqb}
-use lib.ListN.{length, take, drop}
-use Rattle.laws.specs.Choice.{both, either, pick}
+use lib.ListN.{length}
+use Rattle.laws.specs.Choice.{both, pick}
 use Rattle.records.specs.declared.Record.{Record}
-use Rattle.codec.specs.Bytes.{recordLength}
 use Rattle.codec.specs.Reading.{refusalOfBytes, recordOfBytes}
+use Rattle.parts.specs.Parts.{badLength, partsOf}
 use Rattle.endpoints.specs.Values.{Day, none, on, Pfs, Duration, exists, Outcome}
 use Rattle.endpoints.specs.StudyRecords.{Baseline, StudyRecord, baseline, visit, therapy, death, onStudyDays}
 use Rattle.endpoints.specs.Lawful.{Past}
@@ -21,22 +21,6 @@ use Rattle.endpoints.specs.Adding.{refusalOfOpening, refusalOfAdding}
 use Rattle.outcome.specs.Promises.{outcomeValues}
 use Rattle.file.specs.declared.FileAnswer.{FileAnswer}
 use Rattle.file.specs.declared.FileAnswer.the-variants as F
-
--- 4,000 records
-abbrev pub mostBytes : ℕ
-mostBytes = 44000
-
--- 13: length 0, no multiple of 11, or over 44,000
-unfoldable pub badLength : ℕ → Bool
-badLength n = either (eqb n 0) (either (not (eqb (n % recordLength) 0)) (ltb mostBytes n))
-
--- the first n parts of 11 bytes
-abbrev pub parts : ℕ → List ℕ → List (List ℕ)
-parts zero s = []
-parts (suc n) s = take recordLength s ∷ parts n (drop recordLength s)
-
-abbrev pub partsOf : List ℕ → List (List ℕ)
-partsOf s = parts (length s / recordLength) s
 
 -- 2 to 5 where reading refuses the bytes, of which there are 11; else another number
 abbrev pub afterReading : List ℕ → ℕ → ℕ

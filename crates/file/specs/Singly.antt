@@ -4,7 +4,7 @@
 -- Assumes nothing.
 use mathlib.Core.Path.{_≡_}
 use mathlib.Core.Bool.{false}
-use mathlib.Core.List.{List, [], _∷_, _++_}
+use mathlib.Core.List.{List, [], _∷_}
 use mathlib.Core.Logic.{_⊎_}
 use Prim.Native.Nat.{ℕ, suc, _-_, _/_}
 use lib.Dec.{eqb}
@@ -22,7 +22,8 @@ use Rattle.placing.specs.declared.AddAnswer.{AddAnswer}
 use Rattle.placing.specs.Refusals.{addNumber}
 use Rattle.outcome.specs.declared.OutcomeAnswer.{OutcomeAnswer}
 use Rattle.outcome.specs.Promises.{Added, outcome, readingValues, Told}
-use Rattle.file.specs.File.{badLength, partsOf, refused, accepted, verdictOf}
+use Rattle.parts.specs.Parts.{badLength, partsOf, Cuts}
+use Rattle.file.specs.File.{refused, accepted, verdictOf}
 
 -- the number that reading gives, or, where that is 0, the number that opening or adding gives
 abbrev pub numberOf : ReadResult → ℕ → ℕ
@@ -48,16 +49,6 @@ abbrev pub firstRefusal : ℕ → List ℕ → Stop
 firstRefusal k [] = never
 firstRefusal k (n ∷ ns) = pick (eqb n 0) (firstRefusal (suc k) ns) (at n k)
 
--- the parts one behind the other
-abbrev pub joined : List (List ℕ) → List ℕ
-joined [] = []
-joined (part ∷ ps) = part ++ joined ps
-
--- each part has 11 bytes
-abbrev pub AllEleven : List (List ℕ) → Type 0
-AllEleven [] = Unit {0}
-AllEleven (part ∷ ps) = (length part ≡ recordLength) × AllEleven ps
-
 -- answers of the calls on a file's parts one by one, and of the reading behind them
 pub record Called (ps : List (List ℕ)) : Type 0 where
   pub numbers : List ℕ
@@ -68,7 +59,7 @@ pub record Called (ps : List (List ℕ)) : Type 0 where
 
 pub record AsSingly : Type 0 where
   -- where 13 does not meet a file, its parts have 11 bytes each and joined are the file
-  pub cut : (s : List ℕ) → badLength (length s) ≡ false → (joined (partsOf s) ≡ s) × AllEleven (partsOf s)
+  pub cut : Cuts
   -- and the calls have answers
   pub called : (s : List ℕ) → AreBytes s → badLength (length s) ≡ false → Called (partsOf s)
   pub accepts : (s : List ℕ) {ns : List ℕ} {t : Subject} {q : OutcomeAnswer} {o : Outcome} → verdictOf s ≡ accepted o → Singly (partsOf s) ns t → Told t q →

@@ -1,10 +1,11 @@
 // A file of records judged: its refusal with the index of a record, or its outcome with the settled marks (document 01, "Change in size,
 // file and listing" and "Where a call stops", 13 and 14). That it is judged as its records are one by one is proved here.
+use codec::RECORD_LENGTH;
 use held::Subject;
 use outcome::OutcomeResult;
 use placing::MaybeVisit;
 ghost use mathlib.Core.Path.{_≡_};
-ghost use Rattle.file.specs.File.{badLength, fileValues, refused as stopped, Judges};
+ghost use Rattle.file.specs.File.{fileValues, refused as stopped, Judges};
 
 mod numbers; // numbers.rt: the numbers of answers
 mod taking; // taking.rt: one record of a file
@@ -36,17 +37,6 @@ pub struct TakenRecord {
     pub visit: MaybeVisit,
 }
 
-const RECORD_LENGTH: usize = 11;
-
-const MOST_BYTES: usize = 44000;
-
-// Refusal 13.
-pub fn bad_length(n: usize) -> bool
-    ensures { λ r. ⌜ r ≡ badLength n ⌝ }
-{
-    n == 0 || (n % RECORD_LENGTH != 0 || MOST_BYTES < n)
-}
-
 pub(crate) fn refused(number: u8, index: usize) -> FileAnswer
     ensures { λ a. ⌜ fileValues a ≡ stopped number index ⌝ }
 {
@@ -59,7 +49,7 @@ pub(crate) fn refused(number: u8, index: usize) -> FileAnswer
 pub fn judge_file(bytes: &[u8]) -> FileAnswer
     ensures { λ a. ⌜ Judges (now (bytes .entry)) a ⌝ }
 {
-    if bad_length(bytes.len()) {
+    if parts::bad_length(bytes.len()) {
         return refused(13, 0);
     }
     let first = first_record(&bytes[0..11]);

@@ -6,9 +6,6 @@ ghost use lib.ListN.{length};
 ghost use lib.Seq.{paste};
 ghost use Rattle.input.specs.Received.{Received};
 
-// A file has at most this many bytes, so that one byte more is enough to refuse it.
-const MOST_BYTES: usize = 44000;
-
 pub struct Input {
     // A read failed.
     pub failed: bool,
@@ -34,7 +31,8 @@ fn read_into(bytes: &mut [u8]) -> Input
     let mut space = io::buffer();
     let chunk: &mut [u8] = &mut space;
     let mut count: usize = 0;
-    while count <= MOST_BYTES {
+    // One byte more than a file may have is enough to refuse it.
+    while count <= parts::MOST_BYTES {
         let got = libc::read(libc::STDIN_FILENO, chunk);
         if got < 0 {
             return Input {

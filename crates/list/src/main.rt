@@ -1,17 +1,8 @@
 // The listing program (document 01, "Change in size, file and listing"): a file from standard input, its listing to standard output. A read
 // that fails is told from an end of input, so that a file that was cut off is never listed as a whole one.
-ghost use mathlib.Core.Path.{_≡_};
-ghost use lib.ListN.{length};
-
-// Room for the longest listing there can be.
-fn blank_page() -> [u8; 96023]
-    ensures { λ r. ⌜ 96023 ≡ length r ⌝ }
-{
-    [0; 96023]
-}
 
 fn print_listing(bytes: &[u8]) {
-    let mut page = blank_page();
+    let mut page = listing::blank_page();
     let n = listing::list(bytes, &mut page);
     if !io::write_all(libc::STDOUT_FILENO, &page[..n]) {
         io::write_all(

@@ -23,7 +23,8 @@ use Rattle.outcome.proofs.Within.{calls-in-range, reading-in-range}
 use Rattle.outcome.proofs.Runs.{readable}
 use Rattle.file.specs.declared.FileAnswer.{FileAnswer}
 use Rattle.file.specs.declared.TakenRecord.{TakenRecord}
-use Rattle.file.specs.File.{badLength, partsOf, refused, accepted, startsLate, verdictOf, fileValues, Judges}
+use Rattle.parts.specs.Parts.{badLength, partsOf}
+use Rattle.file.specs.File.{refused, accepted, startsLate, verdictOf, fileValues, Judges}
 use Rattle.file.specs.Taking.{TakesFirst, Takes, verdictHeld, Ends}
 use Rattle.file.proofs.Verdicts.{apart, accepted-same}
 use Rattle.file.proofs.Loop.{from, partAt, Standing, bad, first-refused, first-standing, turn-refused, turn, ended}

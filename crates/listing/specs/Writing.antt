@@ -13,7 +13,8 @@ use Rattle.endpoints.specs.Lines.{VisitLine}
 use Rattle.outcome.specs.Promises.{outcome}
 use Rattle.outcome.specs.Laws.{TellsWithin}
 use Rattle.file.specs.declared.FileAnswer.{FileAnswer}
-use Rattle.file.specs.File.{partsOf, Verdict, refused, accepted, verdictOf, fileValues}
+use Rattle.parts.specs.Parts.{partsOf}
+use Rattle.file.specs.File.{Verdict, refused, accepted, verdictOf, fileValues}
 use Rattle.text.specs.Text.{firstLetter, secondLetter, linesText, linesOn, listingOf, pageOf}
 
 -- a text was written into the page from a place on, which led to the place behind it; every other byte is as it was

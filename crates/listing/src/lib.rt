@@ -1,11 +1,13 @@
 // The listing of a file (document 01, "Change in size, file and listing"): judged and its visits' lines written in one pass.
+use codec::RECORD_LENGTH;
 use file::FileAnswer;
 use file::FileRefusal;
 ghost use mathlib.Core.Path.{_≡_};
 ghost use Prim.Native.Nat.{_≤_};
-ghost use lib.ListN.{length, take, drop};
+ghost use lib.ListN.{length, take, drop, replicate};
 ghost use mathlib.Core.List.{_++_};
 ghost use Rattle.file.specs.File.{fileValues, refused};
+ghost use Rattle.text.specs.Text.{longestListing};
 ghost use Rattle.listing.specs.Writing.{JudgesInto, Lists};
 
 mod bytes; // bytes.rt: bytes and numbers into a page
@@ -13,7 +15,16 @@ mod words; // words.rt: the words of answers into a page
 mod visits; // visits.rt: the line of a visit
 mod outcomes; // outcomes.rt: the lines of the outcome, and the line of a refusal
 
-const RECORD_LENGTH: usize = 11;
+// The longest listing there can be has this many bytes.
+pub const PAGE_LENGTH: usize = 96023;
+
+// A page of zeros to lend.
+pub fn blank_page() -> [u8; PAGE_LENGTH]
+    ensures { λ r. ⌜ r ≡ replicate longestListing 0 ⌝ }
+    ensures { λ r. ⌜ longestListing ≡ length r ⌝ }
+{
+    [0; PAGE_LENGTH]
+}
 
 // A file judged, and how many bytes the lines written so far take.
 struct JudgedLines {
@@ -34,10 +45,10 @@ fn stopped(number: u8, index: usize, length: usize) -> JudgedLines
 }
 
 fn judge_into(bytes: &[u8], page: &mut [u8]) -> JudgedLines
-    requires { ⌜ length (now page) ≡ 96023 ⌝ }
+    requires { ⌜ length (now page) ≡ longestListing ⌝ }
     ensures { λ x. ⌜ JudgesInto (now (bytes .entry)) (now (page .entry)) (x .answer) (x .length) (now (page .exit)) ⌝ }
 {
-    if file::bad_length(bytes.len()) {
+    if parts::bad_length(bytes.len()) {
         return stopped(13, 0, 0);
     }
     let first = file::first_record(&bytes[0..11]);
@@ -79,8 +90,8 @@ fn copy(from: &[u8], page: &mut [u8], n: usize)
     }
 }
 
-// Room for the longest listing there can be, so that none is cut short. Where a file is refused behind a visit, the page is restored first.
-pub fn list(bytes: &[u8], page: &mut [u8; 96023]) -> usize
+// The page has room for the longest listing, so that none is cut short. Where a file is refused behind a visit, the page is restored first.
+pub fn list(bytes: &[u8], page: &mut [u8; PAGE_LENGTH]) -> usize
     ensures { λ n. ⌜ Lists (now (bytes .entry)) (now (page .entry)) n (now (page .exit)) ⌝ }
 {
     let before = *page;

@@ -30,9 +30,10 @@ use Rattle.outcome.specs.Laws.{DurationWithin, TellsWithin}
 use Rattle.outcome.proofs.Within.{calls-in-range}
 use Rattle.outcome.proofs.Runs.{opens, some-refusal, readable}
 use Rattle.outcome.proofs.Demand.{first, base, on-day, past, past-one-more, Held, grown, reading}
-use Rattle.file.specs.File.{badLength, parts, partsOf, refusalOfPart, refused, accepted, responseStartsLate, verdictFrom, verdictOf}
+use Rattle.parts.specs.Parts.{badLength, parts, partsOf}
+use Rattle.file.specs.File.{refusalOfPart, refused, accepted, responseStartsLate, verdictFrom, verdictOf}
 use Rattle.file.proofs.Follows.{none-read, opened-taken}
-use Rattle.file.proofs.Cut.{fair-length, length-parts}
+use Rattle.parts.proofs.Cut.{fair-length, length-parts}
 use Rattle.text.specs.Text.{outcomeText, refusalText, linesText, listingText, listingOf, longestListing}
 use Rattle.text.specs.Laws.{Lengths}
 use Rattle.text.proofs.Numerals.{decimal-tells}

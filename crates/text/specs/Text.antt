@@ -11,7 +11,8 @@ use Rattle.criteria.specs.Change.{Tenths}
 use Rattle.endpoints.specs.Values.{PfsWord, EVENT, CENSORED, Pfs, Duration, noDuration, forDays, Outcome}
 use Rattle.endpoints.specs.StudyRecords.{StudyRecord, baseline, visit, therapy, death, onStudyDays}
 use Rattle.endpoints.specs.Lines.{VisitLine, visitLines}
-use Rattle.file.specs.File.{partsOf, Verdict, refused, accepted, verdictOf}
+use Rattle.parts.specs.Parts.{partsOf}
+use Rattle.file.specs.File.{Verdict, refused, accepted, verdictOf}
 use Rattle.text.specs.Numerals.{digit, decimal}
 
 -- A 65, B 66, C 67, D 68, E 69, N 78, O 79, P 80, R 82, S 83, T 84, V 86; e 101, n 110, o 111

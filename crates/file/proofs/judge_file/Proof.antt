@@ -5,7 +5,7 @@ use Prim.Native.Nat.{_-_, _/_, _≤_}
 use borrow.Author.Needs.{needs}
 use native.Mathlib.Omega.{arith}
 use lib.ListN.{length}
-use Rattle.file.proofs.Cut.{fair-length}
+use Rattle.parts.proofs.Cut.{fair-length}
 use Rattle.file.proofs.Loop.{bad, first-refused, Standing, first-standing, turn-refused, turn, ended}
 use Rattle.file.proofs.judge_file.Statement.{statement}
 use Rattle.file.proofs.judge_file.Tie as tie

@@ -5,7 +5,7 @@ use Prim.Native.Nat.{_-_, _*_, _/_, _≤_}
 use borrow.Author.Needs.{needs}
 use native.Mathlib.Omega.{arith}
 use lib.ListN.{length}
-use Rattle.file.proofs.Cut.{fair-length}
+use Rattle.parts.proofs.Cut.{fair-length}
 use Rattle.listing.proofs.Loop.{bad-into, first-into, turn-into, Printing, first-printing, next-writable, turn-printing, ended-into}
 use Rattle.listing.proofs.judge_into.Statement.{statement}
 use Rattle.listing.proofs.judge_into.Tie as tie

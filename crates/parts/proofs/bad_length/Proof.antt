@@ -1,9 +1,9 @@
--- `file::bad_length` meets its contract.
+-- `parts::bad_length` meets its contract.
 -- Assumes nothing.
 use Rattle.laws.proofs.Tests.{tests}
-use Rattle.file.specs.File.{badLength}
-use Rattle.file.proofs.bad_length.Statement.{statement}
-use Rattle.file.proofs.bad_length.Tie as tie
+use Rattle.parts.specs.Parts.{badLength}
+use Rattle.parts.proofs.bad_length.Statement.{statement}
+use Rattle.parts.proofs.bad_length.Tie as tie
 
 pub bad-length-spec : {M : Type 1} → statement M
 bad-length-spec =

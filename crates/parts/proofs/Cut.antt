@@ -11,8 +11,7 @@ use lib.ListN.{length, take, drop, take-append-drop, length-drop}
 use lib.Seq.{length-take-le}
 use Rattle.laws.proofs.Tests.{either-false}
 use Rattle.codec.specs.Bytes.{recordLength}
-use Rattle.file.specs.File.{mostBytes, badLength, parts, partsOf}
-use Rattle.file.specs.Singly.{joined, AllEleven}
+use Rattle.parts.specs.Parts.{mostBytes, badLength, parts, joined, AllEleven, Cuts}
 
 -- what 13 leaves
 pub fair-length : (n : ℕ) → badLength n ≡ false → (1 ≤ n) × (n % 11 ≡ 0) × (n ≤ mostBytes)
@@ -34,7 +33,7 @@ cut-parts (suc n) s e =
     let rest = cut-parts n (drop recordLength s) (simp length-drop (omega arith)) in
     (ap (λ (l : List ℕ). take recordLength s ++ l) (rest .0) ∙ take-append-drop recordLength s, (length-take-le recordLength s (omega arith), rest .1))
 
-pub cut : (s : List ℕ) → badLength (length s) ≡ false → (joined (partsOf s) ≡ s) × AllEleven (partsOf s)
+pub cut : Cuts
 cut s fair = cut-parts (length s / recordLength) s (let h = fair-length (length s) fair in omega arith)
 
 pub length-parts : (n : ℕ) (s : List ℕ) → length (parts n s) ≡ n
