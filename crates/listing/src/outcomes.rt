@@ -8,8 +8,8 @@ use super::words::put_status;
 use super::words::put_word;
 use endpoints::BestResponse;
 use endpoints::DurationAnswer;
-use endpoints::DurationResult;
 use endpoints::PfsResult;
+use endpoints::PfsStatus;
 use file::FileRefusal;
 use outcome::OutcomeResult;
 use outcome::SettledMarks;
@@ -18,22 +18,31 @@ ghost use Prim.Native.Nat.{_+_, _≤_, _<_};
 ghost use lib.ListN.{length};
 ghost use mathlib.Core.List.{[], _∷_};
 ghost use Rattle.laws.specs.Choice.{pick};
-ghost use Rattle.endpoints.specs.Values.{pfsValues, bestWord, durationValues, forDays, wordOfStatus};
+ghost use Rattle.endpoints.specs.Values.{pfsValues, bestWord, durationValues, wordOfStatus};
 ghost use Rattle.outcome.specs.Promises.{outcome as Promises·outcome, outcomeValues};
 ghost use Rattle.outcome.specs.Laws.{DurationWithin, TellsWithin};
-ghost use Rattle.text.specs.Text.{pfsText, bestText, durationText, settledText, outcomeText, refusalText};
+ghost use Rattle.text.specs.Numerals.{decimal};
+ghost use Rattle.text.specs.Text.{statusText, lineOf, pfsText, bestText, durationText, settledText, outcomeText, refusalText};
 ghost use Rattle.listing.specs.Writing.{Wrote};
+
+// A status and a number, of days or of a day, behind the letter of the line.
+fn put_status_line(page: &mut [u8], at: usize, letter: u8, status: PfsStatus, n: u32) -> usize
+    requires { ⌜ (n < 100000) × (at + 17 ≤ length (now page)) ⌝ }
+    ensures { λ r. ⌜ (Wrote (now (page .entry)) at (lineOf ((letter ∷ []) ∷ statusText (wordOfStatus status) ∷ decimal n ∷ [])) r (now (page .exit))) × (r ≤ at + 17) ⌝ }
+{
+    let word = put_two(page, at, letter, b' ');
+    let space = put_status(page, word, status);
+    let number = put_one(page, space, b' ');
+    let end = put_decimal(page, number, n);
+    put_one(page, end, b'\n')
+}
 
 fn put_pfs(page: &mut [u8], at: usize, pfs: PfsResult) -> usize
     requires { ⌜ (pfs .day .0 < 100000) × (at + 17 ≤ length (now page)) ⌝ }
     ensures { λ r. ⌜ (Wrote (now (page .entry)) at (pfsText (pfsValues pfs)) r (now (page .exit))) × (r ≤ at + 17) ⌝ }
 {
     let status = pfs.status;
-    let word = put_two(page, at, b'P', b' ');
-    let space = put_status(page, word, status);
-    let day = put_one(page, space, b' ');
-    let end = put_decimal(page, day, pfs.day.0);
-    put_one(page, end, b'\n')
+    put_status_line(page, at, b'P', status, pfs.day.0)
 }
 
 fn put_best(page: &mut [u8], at: usize, best: BestResponse) -> usize
@@ -42,18 +51,6 @@ fn put_best(page: &mut [u8], at: usize, best: BestResponse) -> usize
 {
     let word = put_one(page, at, b'B');
     let end = put_word(page, word, best_letters(best));
-    put_one(page, end, b'\n')
-}
-
-fn put_days(page: &mut [u8], at: usize, duration: DurationResult) -> usize
-    requires { ⌜ (duration .days < 100000) × (at + 17 ≤ length (now page)) ⌝ }
-    ensures { λ r. ⌜ (Wrote (now (page .entry)) at (durationText (forDays (wordOfStatus (duration .status)) (duration .days))) r (now (page .exit))) × (r ≤ at + 17) ⌝ }
-{
-    let status = duration.status;
-    let word = put_two(page, at, b'D', b' ');
-    let space = put_status(page, word, status);
-    let days = put_one(page, space, b' ');
-    let end = put_decimal(page, days, duration.days as u32);
     put_one(page, end, b'\n')
 }
 
@@ -66,7 +63,10 @@ fn put_duration(page: &mut [u8], at: usize, duration: DurationAnswer) -> usize
             let word = put_two(page, at, b'D', b' ');
             put_five(page, word, b'n', b'o', b'n', b'e', b'\n')
         }
-        DurationAnswer::ForDays(d) => put_days(page, at, d),
+        DurationAnswer::ForDays(d) => {
+            let status = d.status;
+            put_status_line(page, at, b'D', status, d.days as u32)
+        }
     }
 }
 

@@ -1,6 +1,7 @@
 -- `listing::outcomes::put_duration` meets its contract.
 -- Assumes nothing.
 use borrow.Author.Needs.{needs}
+use native.Mathlib.Omega.{arith}
 use Rattle.text.specs.Text.{durationText}
 use Rattle.listing.proofs.Bounds.{days-small}
 use Rattle.listing.proofs.Writing.{then}
@@ -15,8 +16,9 @@ put-duration-spec =
     (λ c κs. search needs)
     (λ c κs. search needs)
     (λ c. search needs)
+    (λ c. omega (arith, days-small _ _ (c .before .before .before .duration .given .1) (c .before .before .before .before .before .before .pre .0)))
     (λ c κs. (search days-small, search needs))
     (λ c. search needs)
     (λ c. unfold durationText in rw (c .before .before .before .before .before .before .before .before .enum-told .given .1) (then (c .before .before .before .before .before .before .put-two .ensures) (c .before .before .put-five .ensures), search needs))
     (λ c. search needs)
-    (λ c. rw (c .before .before .before .before .before .duration .given .1) ((c .before .before .put-days .ensures .0), search needs)))
+    (λ c. unfold durationText in rw (c .before .before .before .before .before .before .duration .given .1) (c .before .before .put-status-line .ensures)))

@@ -2,7 +2,6 @@
 -- Assumes nothing.
 use borrow.Author.Needs.{needs}
 use Rattle.text.specs.Text.{pfsText}
-use Rattle.listing.proofs.Writing.{then}
 use Rattle.listing.proofs.outcomes.put_pfs.Statement.{statement}
 use Rattle.listing.proofs.outcomes.put_pfs.Tie as tie
 
@@ -11,9 +10,5 @@ put-pfs-spec =
     tie.close
     (tie.spec
     (λ c κs. search needs)
-    (λ c κs. search needs)
-    (λ c κs. search needs)
-    (λ c κs. search needs)
-    (λ c κs. search needs)
     (λ c. search needs)
-    (λ c. unfold pfsText in (then (c .before .before .before .before .before .before .before .before .before .before .before .before .before .before .before .before .before .before .put-two .ensures) (then (c .before .before .before .before .before .before .before .before .before .before .before .before .before .before .put-status .ensures .0) (then (c .before .before .before .before .before .before .before .before .before .before .put-one .ensures) (then (c .before .before .before .before .before .before .put-decimal .ensures .0) (c .before .before .put-one2 .ensures)))), search needs)))
+    (λ c. unfold pfsText in (c .before .before .put-status-line .ensures)))
