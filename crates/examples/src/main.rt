@@ -1,6 +1,11 @@
 // Replays of calls, and the same records as a file and its listing, with what they print held to the file `stdout`, which is worked out by
 // hand from document 01. Of each history: the numbers of the answers of opening and adding, 0 where done, and the lines P, B, D and S of
 // the last reading, or R and its number; behind F what judging the file answers; then its listing.
+use dates::StudyDay;
+use endpoints::MaybeDay;
+use held::CountingVisits;
+use held::EventDays;
+use held::Subject;
 
 mod replay; // replay.rt: the calls that a byte string makes
 mod print; // print.rt: the numbers of answers, and the outcome in the lines of the listing
@@ -66,6 +71,41 @@ fn bytes_of_one() {
     let unwritten = codec::write(found, &mut out);
     print::text(b"into ten bytes written\n");
     print::written(unwritten);
+}
+
+// 14 on a held subject that no lawful list leads to: PFS is censored on day 43, and the first response is on day 50.
+fn late_response() {
+    let baseline = codec::read(b"\x2F\xC8\x21\xD0\x28\x82\x80\x00\x00\x00\x00");
+    let found = baseline.found;
+    let opened = opening::open_subject(found);
+    let s = opened.subject;
+    let randomisation = s.randomisation;
+    let disease = s.baseline;
+    let earlier = s.earlier;
+    let late = Subject {
+        randomisation: randomisation,
+        nontarget: s.nontarget,
+        baseline: disease,
+        earlier: earlier,
+        latest: StudyDay(78),
+        therapy: false,
+        death: MaybeDay::Absent,
+        event: EventDays {
+            progression: MaybeDay::Absent,
+            previous: StudyDay(43),
+            evaluable: MaybeDay::On(StudyDay(43)),
+        },
+        counted: CountingVisits {
+            first: MaybeDay::On(StudyDay(50)),
+            start: MaybeDay::Absent,
+            cr: false,
+            pr: true,
+            sd: true,
+            pd: false,
+        },
+    };
+    print::text(b"a response behind the end of PFS\n");
+    print::judged(file::end_file(late, 3));
 }
 
 // Opening, adding and reading, with refused additions, a therapy and a missing baseline.
@@ -276,5 +316,6 @@ fn main() {
     later_refusals();
     lengths();
     bytes_of_one();
+    late_response();
     longest_file();
 }

@@ -7,7 +7,7 @@ use Prim.Native.Nat.{ℕ, _≤_}
 use lib.ListN.{length, drop}
 use Rattle.input.specs.declared.Input.{Input}
 
--- the bytes read stand at the start, and every byte past them is as it was
+-- how many bytes were read, and every byte past them as it was
 pub record Received (bytes : List ℕ) (x : Input) (left : List ℕ) : Type 0 where
   pub within : x .count ≤ length left
   pub rest : drop (x .count) left ≡ drop (x .count) bytes
