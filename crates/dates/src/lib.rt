@@ -42,7 +42,7 @@ fn leap_year(year: u16) -> bool
     year % 4 == 0 && (year % 100 != 0 || year % 400 == 0)
 }
 
-// Beside February, 31 in the odd months to July and in the even ones from August on, 30 in the others.
+// Apart from February, 31 in the odd months to July and in the even ones from August on, 30 in the others.
 fn days_in_month(year: u16, month: u8) -> u8
     ensures { λ r. ⌜ r ≡ daysInMonth (leapYear year) month ⌝ }
 {

@@ -6,6 +6,7 @@ use endpoints::MaybeDay;
 use held::CountingVisits;
 use held::EventDays;
 use held::Subject;
+use records::Record;
 
 mod replay; // replay.rt: the calls that a byte string makes
 mod print; // print.rt: the numbers of answers, and the outcome in the lines of the listing
@@ -71,6 +72,47 @@ fn bytes_of_one() {
     let unwritten = codec::write(found, &mut out);
     print::text(b"into ten bytes written\n");
     print::written(unwritten);
+}
+
+// What opening, adding, adding to a subject out of range, and writing into ten bytes answer for a record that 4 or 5 meets.
+fn own_refusal(name: &[u8], r: Record, held: Subject) {
+    print::text(name);
+    let opened = opening::open_subject(r);
+    let unopened = opened.answer;
+    let blank = opened.subject;
+    print::opened(unopened);
+    let added = outcome::added(held, r);
+    let unadded = added.answer;
+    print::added(unadded);
+    let outside = outcome::added(blank, r);
+    let unjudged = outside.answer;
+    print::added(unjudged);
+    print::text(b"\n");
+    let mut out = [0u8; 10];
+    let unwritten = codec::write(r, &mut out);
+    print::written(unwritten);
+}
+
+// The baseline of the printed example, and that baseline with a size of 501, and with a size beyond the count.
+fn own_refusals() {
+    let baseline = codec::read(b"\x2F\xC8\x21\xD0\x28\x82\x80\x00\x00\x00\x00");
+    let found = baseline.found;
+    let entry = found.entry;
+    let marks = found.marks;
+    let opened = opening::open_subject(found);
+    let held = opened.subject;
+    let large = Record {
+        entry: entry,
+        sizes: [501, 20, 0, 0, 0],
+        marks: marks,
+    };
+    let beyond = Record {
+        entry: entry,
+        sizes: [40, 20, 1, 0, 0],
+        marks: marks,
+    };
+    own_refusal(b"4 by the calls\n", large, held);
+    own_refusal(b"5 by the calls\n", beyond, held);
 }
 
 // 14 on a held subject that no lawful list leads to: PFS is censored on day 43, and the first response is on day 50.
@@ -285,6 +327,45 @@ fn later_refusals() {
     );
 }
 
+// Orders of refusals, sizes above 500, and endings without an evaluable visit.
+fn sharp_cases() {
+    // One target of 20; death on day 5, a visit on day 4 (20).
+    shown(
+        b"9 before 10\n",
+        b"\x2F\xC8\x21\x88\x14\x00\x00\x00\x00\x00\x00\x8F\xC8\x25\x00\x00\x00\x00\x00\x00\x00\x00\x4F\xC8\x24\x08\x28\x00\x00\x00\x00\x00\x00",
+    );
+    // One target of 20; visits on day 43 (20), and on the same day with two measured.
+    shown(
+        b"10 before 11\n",
+        b"\x2F\xC8\x21\x88\x14\x00\x00\x00\x00\x00\x00\x4F\xC8\x4C\x08\x28\x00\x00\x00\x00\x00\x00\x4F\xC8\x4C\x08\x29\x02\x80\x00\x00\x00\x00",
+    );
+    // One target of 20; a visit on day 43 (not measured), death on day 93.
+    shown(
+        b"death on day 93 without an evaluable visit\n",
+        b"\x2F\xC8\x21\x88\x14\x00\x00\x00\x00\x00\x00\x4F\xC8\x4C\x00\x00\x00\x00\x00\x00\x00\x00\x8F\xC8\x82\x00\x00\x00\x00\x00\x00\x00\x00",
+    );
+    // One target of 20; a visit on day 93 (30).
+    shown(
+        b"progression behind two missed visits\n",
+        b"\x2F\xC8\x21\x88\x14\x00\x00\x00\x00\x00\x00\x4F\xC8\x82\x08\x3C\x00\x00\x00\x00\x00\x00",
+    );
+    // One target of 20; a visit on day 43 (501), which reading refuses by 4.
+    shown(
+        b"a measured size of 501\n",
+        b"\x2F\xC8\x21\x88\x14\x00\x00\x00\x00\x00\x00\x4F\xC8\x4C\x0B\xEA\x00\x00\x00\x00\x00\x00",
+    );
+    // One target of 20; a visit on day 43 (not measured, with a size of 501), which reading refuses by 5.
+    shown(
+        b"an unmeasured size of 501\n",
+        b"\x2F\xC8\x21\x88\x14\x00\x00\x00\x00\x00\x00\x4F\xC8\x4C\x03\xEA\x00\x00\x00\x00\x00\x00",
+    );
+    // A baseline that is assessed, without targets and without non-target disease.
+    shown(
+        b"assessed without disease\n",
+        b"\x2F\xC8\x21\x80\x00\x00\x00\x00\x00\x00\x00",
+    );
+}
+
 // Refusal 13, and as many records as a file may have, of kind 0.
 fn lengths() {
     // Nothing.
@@ -296,6 +377,7 @@ fn lengths() {
     );
     let zeros = [0u8; 44011];
     listed(b"44,011 bytes\n", &zeros);
+    listed(b"44,001 bytes\n", &zeros[..44001]);
     listed(b"44,000 bytes\n", &zeros[..44000]);
 }
 
@@ -314,8 +396,10 @@ fn main() {
     changes();
     refusals();
     later_refusals();
+    sharp_cases();
     lengths();
     bytes_of_one();
+    own_refusals();
     late_response();
     longest_file();
 }

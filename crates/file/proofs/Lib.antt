@@ -1,3 +1,4 @@
+pub mod AtTheEdges
 pub mod Verdicts
 pub mod Returns
 pub mod Follows

@@ -1,3 +1,4 @@
 pub mod File
 pub mod Taking
 pub mod Singly
+pub mod Examples

@@ -7,8 +7,8 @@ ghost use lib.Seq.{paste};
 ghost use Rattle.input.specs.Received.{Received};
 
 pub struct Input {
-    // A read failed.
-    pub failed: bool,
+    // Why reading ended: below 0 where a read failed, 0 at the end of input, 1 past the longest file.
+    pub end: isize,
     // How many bytes were read.
     pub count: usize,
 }
@@ -24,6 +24,7 @@ fn store(chunk: &[u8], n: usize, bytes: &mut [u8], at: usize)
     }
 }
 
+// By chunks, since a read into a part of a lent slice is not covered by the kit's proofs. There is room for 44,000 bytes and a chunk of 4,096.
 fn read_into(bytes: &mut [u8]) -> Input
     requires { ⌜ length (now bytes) ≡ 65536 ⌝ }
     ensures { λ x. ⌜ Received (now (bytes .entry)) x (now (bytes .exit)) ⌝ }
@@ -34,21 +35,18 @@ fn read_into(bytes: &mut [u8]) -> Input
     // One byte more than a file may have is enough to refuse it.
     while count <= parts::MOST_BYTES {
         let got = libc::read(libc::STDIN_FILENO, chunk);
-        if got < 0 {
-            return Input {
-                failed: true,
-                count: count,
-            };
-        }
         let n = io::count(got, chunk);
         if n == 0 {
-            break;
+            return Input {
+                end: got,
+                count: count,
+            };
         }
         store(chunk, n, bytes, count);
         count += n;
     }
     Input {
-        failed: false,
+        end: 1,
         count: count,
     }
 }

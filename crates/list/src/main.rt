@@ -15,7 +15,7 @@ fn print_listing(bytes: &[u8]) {
 fn main() {
     let mut bytes = io::large_buffer();
     let read = input::read_input(&mut bytes);
-    if read.failed {
+    if read.end < 0 {
         io::write_all(
             libc::STDERR_FILENO,
             b"list: standard input cannot be read\n",

@@ -1,4 +1,4 @@
--- A text written into a lent page, and what the listing promises (document 01, "Change in size, file and listing" and "Contracts" a).
+-- Document 01, "Change in size, file and listing" and "Contracts" a: a text written into a lent page, and what the listing promises.
 -- Assumes nothing.
 use mathlib.Core.Path.{_≡_}
 use mathlib.Core.List.{List, [], _∷_, map}
@@ -43,7 +43,7 @@ abbrev pub SmallIndex : Verdict → Type 0
 SmallIndex (refused n k) = k < 100000
 SmallIndex (accepted o) = Unit {0}
 
--- a file judged, with a text written on the way; of an accepted file it is the lines of its visits, and no day is told beyond the last
+-- a file judged, and a text written from the start of the page on; of an accepted file the text is the lines of its visits, and its day and duration are within 1 to 40,177
 pub record JudgesInto (s page : List ℕ) (a : FileAnswer) (n : ℕ) (left : List ℕ) : Type 0 where
   pub answer : fileValues a ≡ verdictOf s
   pub index : SmallIndex (fileValues a)

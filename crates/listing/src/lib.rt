@@ -18,7 +18,7 @@ mod outcomes; // outcomes.rt: the lines of the outcome, and the line of a refusa
 // The longest listing there can be has this many bytes.
 pub const PAGE_LENGTH: usize = 96023;
 
-// A page of zeros to lend.
+// A page of zeros to lend. Its length stands in a promise of its own, which lending it as a slice needs.
 pub fn blank_page() -> [u8; PAGE_LENGTH]
     ensures { λ r. ⌜ r ≡ replicate longestListing 0 ⌝ }
     ensures { λ r. ⌜ longestListing ≡ length r ⌝ }

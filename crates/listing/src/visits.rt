@@ -13,7 +13,6 @@ use criteria::Target;
 use placing::JudgedVisit;
 use placing::MaybeVisit;
 use records::Status;
-ghost use mathlib.Core.Path.{_≡_};
 ghost use mathlib.Core.List.{[], _∷_, _++_};
 ghost use Prim.Native.Nat.{_+_, _≤_, _<_};
 ghost use lib.ListN.{length};

@@ -25,6 +25,7 @@ use Rattle.held.specs.Visits.{eventAfter, countedAfter}
 abbrev pub heldDay : Date → Date → StudyDay
 heldDay randomisation d = record { 0 = studyDay randomisation d }
 
+-- the study day of a record
 abbrev pub dayOn : Subject → Record → StudyDay
 dayOn s r = heldDay (s .randomisation) (dateOf (r .entry))
 

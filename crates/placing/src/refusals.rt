@@ -142,7 +142,7 @@ fn place_on(s: Subject, day: StudyDay, r: Record) -> PlaceResult
     }
 }
 
-// The record's own refusals are judged before, and so is 12.
+// Neither the record's own refusals nor 12 are judged here: `add` judges them before, and 12 meets no subject of a file.
 pub fn place(s: Subject, r: Record) -> PlaceResult
     ensures { λ x. ⌜ Places s r x ⌝ }
 {

@@ -2,9 +2,8 @@
 -- Assumes nothing.
 use mathlib.Core.Path.{_≡_}
 use mathlib.Core.Bool.{true, false}
-use mathlib.Core.List.{List, [], _∷_}
-use Prim.Native.Nat.{ℕ}
-use Rattle.criteria.specs.Words.{CR, PR, PD, NN}
+use mathlib.Core.List.{[], _∷_}
+use Rattle.criteria.specs.Words.{PR, PD, NN}
 use Rattle.criteria.specs.Change.{none, signed}
 use Rattle.endpoints.specs.Values.{CENSORED, event, noDuration, forDays, EVENT}
 use Rattle.endpoints.specs.Lines.{VisitLine}

@@ -6,10 +6,6 @@ use Rattle.codec.proofs.Answers.{reads-length, reads-no-kind, reads-jud
 use Rattle.codec.proofs.read.Statement.{statement}
 use Rattle.codec.proofs.read.Tie as tie
 
--- a number of no kind is refused: stated first, since a kind too many is wrong here
-unknown-kind : tie.Need-returns-2
-unknown-kind c = reads-no-kind _ _ (λ k. omega (arith, c .before .before .before .before .before .shared-slice-known .given k)) (c .before .before .before .before .if1 .left) _ (c .before .before .before .field .ensures) _ (c .before .before .is-kind .ensures) (c .before .if2 .taken) (c .refused2 .ensures)
-
 pub read-spec : {M : Type 1} → statement M
 read-spec =
     tie.close
@@ -19,7 +15,7 @@ read-spec =
     (λ c κs. search needs)
     (λ c κs. search needs)
     (λ c κs. search needs)
-    unknown-kind
+    (λ c. reads-no-kind _ _ (λ k. omega (arith, c .before .before .before .before .before .shared-slice-known .given k)) (c .before .before .before .before .if1 .left) _ (c .before .before .before .field .ensures) _ (c .before .before .is-kind .ensures) (c .before .if2 .taken) (c .refused2 .ensures))
     (λ c κs. search needs)
     (λ c κs. search needs)
     (λ c. reads-judged _ _ (λ k. omega (arith, c .before .before .before .before .before .before .shared-slice-known .given k)) (c .before .before .before .before .before .if1 .left) _ (c .before .before .before .before .field .ensures) _ (c .before .before .before .is-kind .ensures) (c .before .before .if2 .left) _ (c .before .raw-in .ensures) (c .judged .ensures)))

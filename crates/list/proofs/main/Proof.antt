@@ -16,6 +16,6 @@ main-spec =
     (λ c κs. search needs)
     (λ c. search needs)
     (λ c. search needs)
-    (λ c. sym (length-take-le (c .before .before .read-input .result .count) (c .before .before .read-input .last .0) (c .before .before .read-input .ensures .within)))
+    (λ c. sym (length-take-le (c .before .before .before .before .read-input .result .count) (c .before .before .before .before .read-input .last .0) (c .before .before .before .before .read-input .ensures .within)))
     (λ c κs. search needs)
     (λ c. search needs))
