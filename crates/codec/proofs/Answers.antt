@@ -12,7 +12,7 @@ use Rattle.packing.specs.Layout.{AreBytes}
 use Rattle.dates.specs.Calendar.{dateExists}
 use Rattle.dates.specs.declared.Date.{Date}
 use Rattle.records.specs.Form.{dateOf, Five}
-use Rattle.records.specs.Refusals.{checkNumber, largeMeasured, sizedUnmeasured, someTarget, outsideLimits, notZero, refusalOfRead, refusalOf}
+use Rattle.records.specs.Refusals.{checkNumber, outsideLimits, notZero, firstOwn, refusalOfRead, refusalOf}
 use Rattle.records.specs.declared.Entry.{Entry}
 use Rattle.records.specs.declared.Entry.the-variants as E
 use Rattle.records.specs.declared.VisitEntry.{VisitEntry}
@@ -54,15 +54,6 @@ judged-passed w a r e f p =
 
 -- ---- judging a visit
 
-module _ (v : VisitEntry) (e : Entry) (h : e ≡ E.Visit v) (marks : List Bool) (sizes : List ℕ) where
-  visit-limits : outsideLimits e marks sizes ≡ someTarget (λ (i : ℕ). largeMeasured) marks sizes
-  unfolding outsideLimits
-  visit-limits = rw h
-
-  visit-zeros : notZero e marks sizes ≡ someTarget (λ (i : ℕ). sizedUnmeasured) marks sizes
-  unfolding notZero
-  visit-zeros = rw h
-
 module _ (n : ℕ) (w : Raw) (we : w ≡ visitIn n) (d : Date) (de : d ≡ dateOf (w .read .entry)) (b : Bool) (be : b ≡ dateExists d) where
   pub visit-no-date : not b ≡ true → (x : ReadResult) → (x .answer ≡ R.NoSuchDate) × (x .found ≡ blank) → Judged (visitIn n) x
   unfolding refusalOfRead
@@ -71,12 +62,12 @@ module _ (n : ℕ) (w : Raw) (we : w ≡ visitIn n) (d : Date) (de : d ≡ dateO
       rw (← we) (judged-no-date w C.NoSuchDate x r refl q)
 
   module _ (h : not b ≡ false) (a : CheckAnswer)
-      (ae : checkNumber a ≡ pick (either (w .unlawful) (someTarget (λ (i : ℕ). largeMeasured) (w .read .marks) (w .read .sizes))) 4 (pick (either (w .spare) (someTarget (λ (i : ℕ). sizedUnmeasured) (w .read .marks) (w .read .sizes))) 5 0)) where
+      (ae : (v : VisitEntry) → checkNumber a ≡ firstOwn false (either (w .unlawful) (outsideLimits (E.Visit v) (w .read .marks) (w .read .sizes))) (either (w .spare) (notZero (E.Visit v) (w .read .marks) (w .read .sizes)))) where
     visit-refusal : checkNumber a ≡ refusalOfRaw w
     unfolding refusalOfRead visitIn
     visit-refusal =
         let e : w .read .entry ≡ E.Visit _ = ap (λ (r : Raw). r .read .entry) we in
-        rw (← de, ← be, h, visit-limits _ (w .read .entry) e (w .read .marks) (w .read .sizes), visit-zeros _ (w .read .entry) e (w .read .marks) (w .read .sizes)) ae
+        rw (← de, ← be, h, e) (ae _)
 
     pub visit-judged : (x : ReadResult) → ((u : Raw) → checkNumber a ≡ refusalOfRaw u → w .read ≡ u .read → Judged u x) → Judged (visitIn n) x
     visit-judged x j = rw (← we) (j w visit-refusal refl)

@@ -1,4 +1,4 @@
--- The fields of a record's bytes by the bit where they start, bit 0 being the most significant.
+-- Document 01, "Dates and records": the fields of a record's bytes by the bit where they start, bit 0 being the most significant.
 -- Assumes nothing.
 use Prim.Native.Nat.{ℕ, _+_, _-_, _*_, _/_, _%_, _^_}
 use mathlib.Core.Bool.{Bool}

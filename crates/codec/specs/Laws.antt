@@ -1,4 +1,5 @@
--- Both round trips, and the baseline that document 01 prints: stated over the promises of the calls, proved in proofs/RoundTrip.antt.
+-- Document 01, "Dates and records": both round trips, and the baseline that it prints, stated over the promises of the calls; proved in
+-- proofs/RoundTrip.antt.
 -- Assumes nothing.
 use mathlib.Core.Path.{_≡_}
 use mathlib.Core.Bool.{true, false}

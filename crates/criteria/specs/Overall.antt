@@ -62,7 +62,7 @@ overallAnswer assessed newLesion target nontarget =
     (pick (either newLesion (either (isPD target) (isPD nontarget))) PD
     (cell (rowOf target) (columnOf nontarget)))
 
--- other than NE
+-- evaluable, as document 01 defines it: other than NE
 abbrev pub evaluable : Word → Bool
 evaluable NE = false
 evaluable CR = true

@@ -1,4 +1,4 @@
--- What the calls on dates answer, in the paper's numbers.
+-- Document 01, "Dates and records" and "Where a call stops", 3 and 10: what the calls on dates answer, in its numbers.
 -- Assumes nothing.
 use Prim.Native.Nat.{ℕ, _+_, _-_}
 use lib.Dec.{leb}

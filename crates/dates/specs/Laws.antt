@@ -1,4 +1,4 @@
--- What document 01 lets a reader expect of the calendar: stated here, proved in proofs/Calendar.antt.
+-- Document 01, "Dates and records": what a reader can expect of the calendar; proved in proofs/Calendar.antt.
 -- Assumes nothing.
 use mathlib.Core.Path.{_≡_}
 use mathlib.Core.Bool.{Bool, true}

@@ -74,6 +74,6 @@ acceptedAfter rs [] = rs
 acceptedAfter rs (add r ∷ cs) = acceptedAfter (pick (eqb (refusalOfAdding rs r) 0) (rs ++ (r ∷ [])) rs) cs
 acceptedAfter rs (read ∷ cs) = acceptedAfter rs cs
 
--- the baseline opened with comes first
+-- the accepted records, a term of document 01: the baseline opened with comes first
 abbrev pub accepted : Record → List Call → List Record
 accepted b cs = acceptedAfter (b ∷ []) cs

@@ -4,17 +4,14 @@
 use mathlib.Core.Path.{_≡_}
 use mathlib.Core.Bool.{Bool, true, false}
 use mathlib.Core.List.{List, [], _∷_}
-use Prim.Native.Nat.{ℕ}
 use Rattle.dates.specs.declared.Date.{Date}
 use Rattle.dates.specs.Laws.{ymd}
-use Rattle.records.specs.declared.Status.{Status}
 use Rattle.records.specs.declared.Status.the-variants as S
-use Rattle.records.specs.declared.Entry.the-variants as E
 use Rattle.records.specs.declared.Record.{Record}
-use Rattle.records.specs.Refusals.{mostTargets}
+use Rattle.records.specs.Examples.{baselineDated, visitDated, therapyDated, deathDated}
 use Rattle.endpoints.specs.StudyRecords.{StudyRecord, baseline, therapy, death, onStudyDays}
 use Rattle.endpoints.specs.Lawful.{lawful}
-use Rattle.endpoints.specs.Examples.{filled, oneTarget, withNode, visitOn, measuring}
+use Rattle.endpoints.specs.Examples.{oneTarget, withNode, visitOn, measuring}
 use Rattle.endpoints.specs.Adding.{refusalOfOpening, refusalOfAdding, add, read, accepted}
 
 abbrev pub behindOneTarget : List StudyRecord → Bool
@@ -32,32 +29,9 @@ pub record Unlawful : Type 0 where
   pub statusWithoutLesions : behindOneTarget (visitOn 43 S.CR false (90 ∷ []) ∷ []) ≡ false
   pub lesionsWithoutStatus : lawful (baseline withNode ∷ visitOn 43 S.NA false (0 ∷ 0 ∷ []) ∷ []) ≡ false
 
--- a baseline: assessed, non-target disease, count, and the sizes; the second target is a node
-abbrev pub baselineDated : Date → Bool → Bool → ℕ → List ℕ → Record
-baselineDated d assessed nontarget count sizes =
-    record {
-      entry = E.Baseline (record { date = d; assessed = assessed; nontarget = nontarget; count = count });
-      sizes = filled 0 mostTargets sizes;
-      marks = filled false mostTargets (false ∷ assessed ∷ []);
-    }
-
-abbrev pub visitDated : Date → Status → Bool → List Bool → List ℕ → Record
-visitDated d s new measured sizes =
-    record {
-      entry = E.Visit (record { date = d; status = s; newlesion = new });
-      sizes = filled 0 mostTargets sizes;
-      marks = filled false mostTargets measured;
-    }
-
-abbrev pub therapyDated : Date → Record
-therapyDated d = record { entry = E.Therapy d; sizes = filled 0 mostTargets []; marks = filled false mostTargets [] }
-
-abbrev pub deathDated : Date → Record
-deathDated d = record { entry = E.Death d; sizes = filled 0 mostTargets []; marks = filled false mostTargets [] }
-
 -- the baseline and the first visit of the printed example
 abbrev pub printedBaseline : Date → Record
-printedBaseline d = baselineDated d true true 2 (40 ∷ 20 ∷ [])
+printedBaseline d = baselineDated d true true 2 (false ∷ true ∷ []) (40 ∷ 20 ∷ [])
 
 abbrev pub opened : Record
 opened = printedBaseline (ymd 2020 1 1)
@@ -79,11 +53,11 @@ pub record OnStudyDays : Type 0 where
 pub record FirstRefusals : Type 0 where
   -- opening: 3 to 5, then 7
   pub opens : refusalOfOpening opened ≡ 0
-  pub opensMissing : refusalOfOpening (baselineDated (ymd 2020 1 1) false false 0 []) ≡ 0
+  pub opensMissing : refusalOfOpening (baselineDated (ymd 2020 1 1) false false 0 [] []) ≡ 0
   pub opensWithoutDate : refusalOfOpening (visitDated (ymd 2021 2 29) S.NN false (true ∷ []) (501 ∷ [])) ≡ 3
   pub opensWithLargeVisit : refusalOfOpening (visitDated (ymd 2020 2 12) S.NN false (true ∷ []) (501 ∷ [])) ≡ 4
-  pub opensWithoutDisease : refusalOfOpening (baselineDated (ymd 2020 1 1) true false 0 []) ≡ 4
-  pub opensMissingWithCount : refusalOfOpening (baselineDated (ymd 2020 1 1) false false 1 []) ≡ 5
+  pub opensWithoutDisease : refusalOfOpening (baselineDated (ymd 2020 1 1) true false 0 [] []) ≡ 4
+  pub opensMissingWithCount : refusalOfOpening (baselineDated (ymd 2020 1 1) false false 1 [] []) ≡ 5
   pub opensWithVisit : refusalOfOpening visited ≡ 7
   pub opensWithTherapy : refusalOfOpening (therapyDated (ymd 2020 1 1)) ≡ 7
   -- adding: the record's own first

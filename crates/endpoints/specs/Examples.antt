@@ -4,12 +4,13 @@
 use mathlib.Core.Path.{_≡_}
 use mathlib.Core.Bool.{Bool, true, false}
 use mathlib.Core.List.{List, [], _∷_, map, reverse}
-use Prim.Native.Nat.{ℕ, zero, suc}
+use Prim.Native.Nat.{ℕ}
 use lib.ListN.{length}
 use Rattle.laws.specs.Choice.{both}
 use Rattle.records.specs.declared.Status.{Status}
 use Rattle.records.specs.declared.Status.the-variants as S
 use Rattle.records.specs.Refusals.{mostTargets}
+use Rattle.records.specs.Examples.{filled}
 use Rattle.criteria.specs.Words.{Word, CR, PR, SD, PD, NE}
 use Rattle.criteria.specs.Overall.{isPD}
 use Rattle.criteria.specs.Visits.{visitTarget}
@@ -20,12 +21,6 @@ use Rattle.endpoints.specs.Lawful.{Past, lawful}
 use Rattle.endpoints.specs.Visits.{visitsOf, Judged, judged}
 use Rattle.endpoints.specs.Best.{isCR}
 use Rattle.endpoints.specs.Settled.{outcome}
-
--- five places, the first of them as given
-abbrev pub filled : {A : Type 0} → A → ℕ → List A → List A
-filled blank zero xs = []
-filled blank (suc n) [] = blank ∷ filled blank n []
-filled blank (suc n) (x ∷ xs) = x ∷ filled blank n xs
 
 -- an assessed baseline: non-target disease or not, which targets are nodes, and the targets' sizes
 abbrev pub withTargets : Bool → List Bool → List ℕ → Baseline

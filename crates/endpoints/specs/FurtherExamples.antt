@@ -1,5 +1,5 @@
--- Document 01: examples 7 and 11, the outcome of the printed example, and cases in which one sentence of "Outcome" applies and a similar one does not;
--- proved in proofs/AtTheEdges.antt.
+-- Document 01, "Examples at the edges", 7 and 11, the outcome of the printed example, and cases in which one sentence of "Outcome" applies and a similar
+-- one does not; proved in proofs/AtTheEdges.antt.
 -- Assumes nothing.
 use mathlib.Core.Bool.{true, false}
 use mathlib.Core.List.{List, [], _∷_}

@@ -17,7 +17,7 @@ use Rattle.endpoints.specs.StudyRecords.{Baseline, StudyRecord, baseline
 abbrev pub Past : Type 0
 Past = List StudyRecord
 
--- the latest day starts at 1
+-- the latest day, a term of document 01, starts at 1
 abbrev pub latestDay : Past → ℕ
 latestDay [] = 1
 latestDay (r ∷ p) = max (dayOf r) (latestDay p)
@@ -56,7 +56,7 @@ abbrev pub lawfulBehind : Baseline → Past → Bool
 lawfulBehind b [] = true
 lawfulBehind b (r ∷ p) = both (lawfulBehind b p) (both (not (died p)) (placed b (latestDay p) r))
 
--- a list in the order recorded opens with a baseline
+-- lawful, a term of document 01: a list in the order recorded that opens with a baseline
 abbrev pub lawful : List StudyRecord → Bool
 lawful [] = false
 lawful (baseline b ∷ rs) = lawfulBehind b (reverse rs)

@@ -1,4 +1,4 @@
--- What document 01, "Dates and records", "Outcome" and "Settled", lets a reader expect of lists: stated here, proved in proofs/.
+-- Document 01, "Dates and records", "Outcome" and "Settled": what a reader can expect of lists; proved in proofs/.
 -- Assumes nothing.
 use mathlib.Core.Path.{_≡_}
 use mathlib.Core.Bool.{true, false}

@@ -16,7 +16,7 @@ abbrev pub beforeEvent : List Judged → List Judged
 beforeEvent [] = []
 beforeEvent (j ∷ js) = pick (isRecorded (firstPD (j ∷ js))) (beforeEvent js) (j ∷ beforeEvent js)
 
--- v: the day of the last visit recorded before the event, evaluable or not, or day 1
+-- v, document 01's letter: the day of the last visit recorded before the event, evaluable or not, or day 1
 abbrev pub lastVisit : List Judged → ℕ
 lastVisit [] = 1
 lastVisit (j ∷ js) = j .day
@@ -29,7 +29,7 @@ lastEvaluable (j ∷ js) = pick (evaluable (j .answer)) (on (j .day)) (lastEvalu
 unfoldable pub gapLimit : ℕ → ℕ
 gapLimit v = pick (leb v 1) 91 (pick (leb v 119) 98 (pick (leb v 161) 112 126))
 
--- two visits are missed when event day − v exceeds the limit; `-` stops at 0, so a v after the event would be no gap
+-- two visits missed, a term of document 01: event day − v exceeds the limit; `-` stops at 0, so a v after the event would be no gap
 abbrev pub twoMissed : ℕ → ℕ → Bool
 twoMissed day v = ltb (gapLimit v) (day - v)
 

@@ -1,4 +1,4 @@
--- Document 01, "Settled": the marks.
+-- Document 01, "Settled", a term of its own: the marks, each of which says whether a further record can still change its part of the outcome.
 -- Assumes nothing.
 use Prim.Native.Nat.{ℕ, _+_}
 use mathlib.Core.Bool.{Bool, not}

@@ -53,7 +53,7 @@ progression b p = firstPD (judged b p)
 abbrev pub countingClosed : Baseline → Past → Bool
 countingClosed b p = either (therapyRecorded p) (isRecorded (progression b p))
 
--- counting visits are those recorded before the first therapy, up to and with progression
+-- counting visits, a term of document 01: those recorded before the first therapy, up to and with progression
 abbrev pub counting : Baseline → Past → List Judged
 counting b [] = []
 counting b (baseline x ∷ p) = counting b p

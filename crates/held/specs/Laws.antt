@@ -1,4 +1,4 @@
--- What document 01, "Where a call stops", says of 12, in its numbers: stated here, proved in proofs/Within.antt.
+-- Document 01, "Where a call stops": 12 in its own numbers; proved in proofs/Within.antt.
 -- Assumes nothing.
 use mathlib.Core.Path.{_≡_}
 use mathlib.Core.Bool.{true}

@@ -3,7 +3,7 @@
 -- Assumes nothing.
 use mathlib.Core.Path.{_≡_}
 use mathlib.Core.List.{List}
-use Prim.Native.Nat.{ℕ, _≤_}
+use Prim.Native.Nat.{ℕ, _<_, _≤_}
 use lib.ListN.{length, drop}
 use Rattle.io.specs.Counts.{clamped}
 use Rattle.parts.specs.Parts.{mostBytes}
@@ -15,3 +15,5 @@ pub record Received (bytes : List ℕ) (x : Input) (left : List ℕ) : Type 0 wh
   pub rest : drop (x .count) left ≡ drop (x .count) bytes
   -- unless there are more bytes than a file may have, the last read failed or was at the end of input
   pub ended : x .count ≤ mostBytes → clamped (x .end) 1 ≡ 0
+  -- and where there are more, the answer is a number above 0
+  pub over : mostBytes < x .count → clamped (x .end) 1 ≡ 1

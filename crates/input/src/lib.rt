@@ -17,11 +17,7 @@ fn store(chunk: &[u8], n: usize, bytes: &mut [u8], at: usize)
     requires { ⌜ (n ≤ length (now chunk)) × (at + n ≤ length (now bytes)) ⌝ }
     ensures { λ _. ⌜ now (bytes .exit) ≡ paste (now (bytes .entry)) at (now (chunk .entry)) n ⌝ }
 {
-    let mut i: usize = 0;
-    while i < n {
-        bytes[at + i] = chunk[i];
-        i += 1;
-    }
+    bytes::copy(&chunk[..n], &mut bytes[at..]);
 }
 
 // By chunks, since a read into a part of a lent slice is not covered by the kit's proofs. There is room for 44,000 bytes and a chunk of 4,096.

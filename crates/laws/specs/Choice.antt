@@ -1,4 +1,4 @@
--- Tests as Bool values: and, or, a choice between two values, and a test at every or at some number below a bound.
+-- Document 01, every section: its "and", "or", "first that applies", "every" and "some" as tests on Bool values.
 -- Assumes nothing.
 use Prim.Native.Nat.{ℕ, zero, suc}
 use mathlib.Core.Bool.{Bool, true, false}

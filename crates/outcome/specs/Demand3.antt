@@ -1,4 +1,4 @@
--- Document 01, demand 3, with "Settled" and "Contracts" c: one claim about a whole list of calls on one subject. Proved in proofs/Demand.antt.
+-- Document 01, "Settled", demand 3, and "Contracts" c: one claim about a whole list of calls on one subject. Proved in proofs/Demand.antt.
 -- Assumes nothing.
 use mathlib.Core.Path.{_≡_}
 use mathlib.Core.Bool.{true}

@@ -24,7 +24,7 @@ use Rattle.endpoints.proofs.Behind.{absent, next, latest-is-last}
 use Rattle.held.specs.Visits.{countedAfter}
 use Rattle.held.proofs.Ordered.{Falling, counting-falls}
 use Rattle.held.proofs.Follows.{at, maybe, day-of-maybe, eventOf, countedOf, event-follows, counted-follows, summary}
-use Rattle.placing.specs.Added.{heldDay, answerOn, visitAdded, therapyAdded, deathAdded, entryAdded}
+use Rattle.placing.specs.Added.{heldDay, answerOn, visitAdded, later, therapyAdded, deathAdded, entryAdded}
 use Rattle.placing.specs.Lines.{linesOn}
 use Rattle.placing.specs.Refusals.{refusalOn}
 
@@ -81,31 +81,9 @@ module _ (randomisation : Date) (b : Baseline) (p : Past) where
       }
   adding-follows (E.Therapy d) marks sizes l =
       let latest = ap at (sym (latest-is-last b p (entryOnStudyDay randomisation (E.Therapy d) marks sizes) l)) in
-      λ i.
-      record {
-        randomisation = randomisation;
-        nontarget = b .nontarget;
-        baseline = disease b;
-        earlier = leftBy (disease b) (visitsOf p);
-        latest = latest i;
-        therapy = true;
-        death = maybe (deathDay p);
-        event = eventOf (judged b p);
-        counted = countedOf (counting b p);
-      }
+      λ i. later (summary randomisation b p) (latest i) true (maybe (deathDay p))
   adding-follows (E.Death d) marks sizes l =
       let r = entryOnStudyDay randomisation (E.Death d) marks sizes in
       let latest = ap at (sym (latest-is-last b p r l)) in
       let death = ap (λ (x : Day). maybe (x orElse on (studyDay randomisation d))) (sym (absent (deathDay p) (next b p r l .alive))) in
-      λ i.
-      record {
-        randomisation = randomisation;
-        nontarget = b .nontarget;
-        baseline = disease b;
-        earlier = leftBy (disease b) (visitsOf p);
-        latest = latest i;
-        therapy = therapyRecorded p;
-        death = death i;
-        event = eventOf (judged b p);
-        counted = countedOf (counting b p);
-      }
+      λ i. later (summary randomisation b p) (latest i) (therapyRecorded p) (death i)

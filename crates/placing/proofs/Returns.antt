@@ -182,28 +182,12 @@ module _ (s : Subject) (day : StudyDay) (a : AddAnswer) (n : ℕ) (x : PlaceResu
     pub visit-placed : n ≡ 0 → Advanced (visitAdded s day v marks sizes) (lineOn s day v marks sizes ∷ []) x → PlacesEntry s day (E.Visit v) marks sizes x
     visit-placed z w = went-on (refusalOn s day (E.Visit v) marks) n a x nq refusal-of-visit z w
 
-  module _ (date : Date) (aq : addNumber a ≡ refusalBy (isRecorded (dayValue (s .death))) (ltb (day .0) (s .latest .0)) false) where
-    refusal-of-therapy : addNumber a ≡ refusalOn s day (E.Therapy date) []
-    unfolding refusalOn
-    refusal-of-therapy = aq
+  module _ (next : Subject) (aq : addNumber a ≡ refusalBy (isRecorded (dayValue (s .death))) (ltb (day .0) (s .latest .0)) false) where
+    pub later-refused : (n ≡ 0 → ⊥) → Stays → Behind s next [] (refusalBy (isRecorded (dayValue (s .death))) (ltb (day .0) (s .latest .0)) false) x
+    later-refused z q = stopped _ n a x nq aq z q
 
-    refusal-of-death : addNumber a ≡ refusalOn s day (E.Death date) []
-    unfolding refusalOn
-    refusal-of-death = aq
-
-    module _ (z : n ≡ 0 → ⊥) (q : Stays) where
-      pub therapy-refused : PlacesEntry s day (E.Therapy date) [] [] x
-      therapy-refused = stopped (refusalOn s day (E.Therapy date) []) n a x nq refusal-of-therapy z q
-
-      pub death-refused : PlacesEntry s day (E.Death date) [] [] x
-      death-refused = stopped (refusalOn s day (E.Death date) []) n a x nq refusal-of-death z q
-
-    module _ (z : n ≡ 0) (next : Subject) (w : Advanced next [] x) where
-      pub therapy-placed : next ≡ therapyAdded s day → PlacesEntry s day (E.Therapy date) [] [] x
-      therapy-placed e = went-on (refusalOn s day (E.Therapy date) []) n a x nq refusal-of-therapy z (rw e at w)
-
-      pub death-placed : next ≡ deathAdded s day → PlacesEntry s day (E.Death date) [] [] x
-      death-placed e = went-on (refusalOn s day (E.Death date) []) n a x nq refusal-of-death z (rw e at w)
+    pub later-placed : n ≡ 0 → Advanced next [] x → Behind s next [] (refusalBy (isRecorded (dayValue (s .death))) (ltb (day .0) (s .latest .0)) false) x
+    later-placed z w = went-on _ n a x nq aq z w
 
 -- by the record's kind
 module _ (s : Subject) (day : StudyDay) (e : Entry) (marks : List Bool) (sizes : List ℕ) (x : PlaceResult) where
@@ -215,10 +199,11 @@ module _ (s : Subject) (day : StudyDay) (e : Entry) (marks : List Bool) (sizes :
   pub of-visit : (v : VisitEntry) → e ≡ E.Visit v → PlacesEntry s day (E.Visit v) marks sizes x → PlacesEntry s day e marks sizes x
   of-visit v q p = rw q p
 
-  pub of-therapy : (d : Date) → e ≡ E.Therapy d → PlacesEntry s day (E.Therapy d) [] [] x → PlacesEntry s day e marks sizes x
-  unfolding refusalOn
-  of-therapy d q p = rw q p
+  module _ (next : Subject) (d : Date) (p : Behind s next [] (refusalBy (isRecorded (dayValue (s .death))) (ltb (day .0) (s .latest .0)) false) x) where
+    pub of-therapy : e ≡ E.Therapy d → next ≡ therapyAdded s day → PlacesEntry s day e marks sizes x
+    unfolding refusalOn
+    of-therapy q n = rw (q, ← n) p
 
-  pub of-death : (d : Date) → e ≡ E.Death d → PlacesEntry s day (E.Death d) [] [] x → PlacesEntry s day e marks sizes x
-  unfolding refusalOn
-  of-death d q p = rw q p
+    pub of-death : e ≡ E.Death d → next ≡ deathAdded s day → PlacesEntry s day e marks sizes x
+    unfolding refusalOn
+    of-death q n = rw (q, ← n) p

@@ -5,7 +5,7 @@ use mathlib.Core.Bool.{Bool, true, false}
 use mathlib.Core.List.{List}
 use Prim.Native.Nat.{ℕ, _+_, _-_, _≤_, min}
 use native.Mathlib.Omega.{arith}
-use lib.Dec.{leb, eqb}
+use lib.Dec.{leb, ltb, eqb}
 use borrow.Author.Tests.{leb-false, ltb-false}
 use Rattle.laws.specs.Choice.{both, pick}
 use Rattle.laws.proofs.Tests.{both-true}
@@ -20,13 +20,15 @@ use Rattle.records.specs.Form.{dateOf, kindNumber}
 use Rattle.criteria.specs.Sums.{measuredSum, allMeasured}
 use Rattle.criteria.specs.Nadir.{afterVisit}
 use Rattle.criteria.specs.declared.Earlier.{Earlier}
+use Rattle.endpoints.specs.declared.MaybeDay.{MaybeDay}
+use Rattle.endpoints.specs.declared.MaybeDay.the-variants as M
 use Rattle.endpoints.specs.Values.{isRecorded, dayValue}
 use Rattle.endpoints.specs.StudyRecords.{studyDay}
 use Rattle.held.specs.declared.Subject.{Subject}
 use Rattle.held.specs.declared.CountingVisits.{CountingVisits}
-use Rattle.held.specs.Laws.{Within, CountedWithin, SubjectWithin}
+use Rattle.held.specs.Laws.{Within, AbsentOrWithin, CountedWithin, SubjectWithin}
 use Rattle.held.proofs.Within.{event-within, counted-within}
-use Rattle.placing.specs.Added.{heldDay, answerOn, closedOn, visitAdded, therapyAdded, deathAdded, entryAdded}
+use Rattle.placing.specs.Added.{heldDay, answerOn, closedOn, visitAdded, later, therapyAdded, deathAdded, entryAdded}
 use Rattle.placing.specs.Refusals.{earlyOn, misfitOn, refusalOn}
 
 pub study-day-most : (randomisation d : Date) → studyDay randomisation d ≤ lastDayNumber
@@ -63,13 +65,34 @@ nadir-least count earlier measured sizes = go (allMeasured count measured)
     go true = omega arith
     go false = omega arith
 
+later-within : (s : Subject) (day : StudyDay) (therapy : Bool) (death : MaybeDay) → SubjectWithin s → Within (day .0) → AbsentOrWithin death →
+    SubjectWithin (later s day therapy death)
+later-within s day therapy death w d a =
+    record {
+      randomisation = w .randomisation;
+      count = w .count;
+      sum = w .sum;
+      nadir = w .nadir;
+      latest = d;
+      death = a;
+      event = w .event;
+      counted = w .counted;
+    }
+
+-- a date whose study day is not before the latest one
+on-or-after : (s : Subject) (d : Date) → SubjectWithin s → ltb (studyDay (s .randomisation) d) (s .latest .0) ≡ false → Within (studyDay (s .randomisation) d)
+on-or-after s d w h =
+    let from = w .latest .0 in
+    let behind = ltb-false (studyDay (s .randomisation) d) (s .latest .0) h in
+    (omega arith, study-day-most (s .randomisation) d)
+
 pub adding-within : (s : Subject) (e : Entry) (marks : List Bool) (sizes : List ℕ) → SubjectWithin s →
     refusalOn s (heldDay (s .randomisation) (dateOf e)) e marks ≡ 0 → SubjectWithin (entryAdded s (heldDay (s .randomisation) (dateOf e)) e marks sizes)
 unfolding visitAdded therapyAdded deathAdded
 adding-within s (E.Baseline b) marks sizes w r = w
 adding-within s (E.Visit v) marks sizes w r =
     let most = study-day-most (s .randomisation) (v .date) in
-    let later = leb-false (studyDay (s .randomisation) (v .date)) (s .latest .0) (not-early s (heldDay (s .randomisation) (v .date)) (E.Visit v) marks r) in
+    let behind = leb-false (studyDay (s .randomisation) (v .date)) (s .latest .0) (not-early s (heldDay (s .randomisation) (v .date)) (E.Visit v) marks r) in
     let from = w .latest .0 in
     let day : Within (studyDay (s .randomisation) (v .date)) = (omega arith, most) in
     let held = heldDay (s .randomisation) (v .date) in
@@ -91,30 +114,8 @@ adding-within s (E.Visit v) marks sizes w r =
     counted-or-not true k = w .counted
     counted-or-not false k = k
 adding-within s (E.Therapy d) marks sizes w r =
-    let most = study-day-most (s .randomisation) d in
-    let later = ltb-false (studyDay (s .randomisation) d) (s .latest .0) (not-early s (heldDay (s .randomisation) d) (E.Therapy d) marks r) in
-    let from = w .latest .0 in
-    record {
-      randomisation = w .randomisation;
-      count = w .count;
-      sum = w .sum;
-      nadir = w .nadir;
-      latest = (omega arith, most);
-      death = w .death;
-      event = w .event;
-      counted = w .counted;
-    }
+    let day = on-or-after s d w (not-early s (heldDay (s .randomisation) d) (E.Therapy d) marks r) in
+    later-within s _ true (s .death) w day (w .death)
 adding-within s (E.Death d) marks sizes w r =
-    let most = study-day-most (s .randomisation) d in
-    let later = ltb-false (studyDay (s .randomisation) d) (s .latest .0) (not-early s (heldDay (s .randomisation) d) (E.Death d) marks r) in
-    let from = w .latest .0 in
-    record {
-      randomisation = w .randomisation;
-      count = w .count;
-      sum = w .sum;
-      nadir = w .nadir;
-      latest = (omega arith, most);
-      death = (omega arith, most);
-      event = w .event;
-      counted = w .counted;
-    }
+    let day = on-or-after s d w (not-early s (heldDay (s .randomisation) d) (E.Death d) marks r) in
+    later-within s _ (s .therapy) (M.On (heldDay (s .randomisation) d)) w day day

@@ -15,6 +15,7 @@ use Rattle.criteria.specs.Words.{Word, statusWord}
 use Rattle.criteria.specs.Targets.{targetAnswer}
 use Rattle.criteria.specs.Nadir.{afterVisit}
 use Rattle.criteria.specs.Overall.{overallAnswer}
+use Rattle.endpoints.specs.declared.MaybeDay.{MaybeDay}
 use Rattle.endpoints.specs.declared.MaybeDay.the-variants as M
 use Rattle.endpoints.specs.Values.{isRecorded, dayValue}
 use Rattle.endpoints.specs.StudyRecords.{studyDay}
@@ -52,33 +53,26 @@ visitAdded s day v measured sizes =
       counted = pick (closedOn s) (s .counted) (countedAfter (s .counted) day (answerOn s v measured sizes));
     }
 
-unfoldable pub therapyAdded : Subject → StudyDay → Subject
-therapyAdded s day =
+-- on a later day, with or without a therapy and a death; nothing of the visits changes
+abbrev pub later : Subject → StudyDay → Bool → MaybeDay → Subject
+later s day therapy death =
     record {
       randomisation = s .randomisation;
       nontarget = s .nontarget;
       baseline = s .baseline;
       earlier = s .earlier;
       latest = day;
-      therapy = true;
-      death = s .death;
+      therapy = therapy;
+      death = death;
       event = s .event;
       counted = s .counted;
     }
 
+unfoldable pub therapyAdded : Subject → StudyDay → Subject
+therapyAdded s day = later s day true (s .death)
+
 unfoldable pub deathAdded : Subject → StudyDay → Subject
-deathAdded s day =
-    record {
-      randomisation = s .randomisation;
-      nontarget = s .nontarget;
-      baseline = s .baseline;
-      earlier = s .earlier;
-      latest = day;
-      therapy = s .therapy;
-      death = M.On day;
-      event = s .event;
-      counted = s .counted;
-    }
+deathAdded s day = later s day (s .therapy) (M.On day)
 
 -- the subject after a record on its study day; no baseline comes to be added
 abbrev pub entryAdded : Subject → StudyDay → Entry → List Bool → List ℕ → Subject

@@ -25,7 +25,7 @@ ghost use Rattle.endpoints.specs.Values.{isRecorded, dayValue};
 ghost use Rattle.placing.specs.Added.{heldDay};
 ghost use Rattle.placing.specs.declared.MaybeVisit.the-variants as J;
 ghost use Rattle.placing.specs.Lines.{Advanced};
-ghost use Rattle.placing.specs.Refusals.{addNumber, refusalBy, PlacesEntry, Places};
+ghost use Rattle.placing.specs.Refusals.{addNumber, refusalBy, Behind, PlacesEntry, Places};
 
 // The study day of a date; 0, which is no study day, where there is none.
 fn held_day(randomisation: Date, date: Date) -> StudyDay
@@ -98,36 +98,17 @@ fn place_visit(
     visited(s, day, v, measured, sizes)
 }
 
-// Of a therapy or a death.
-fn refusal_on_or_after(s: Subject, day: StudyDay) -> AddAnswer
-    ensures { λ a. ⌜ addNumber a ≡ refusalBy (isRecorded (dayValue (s .death))) (ltb (day .0) (s .latest .0)) false ⌝ }
+// A therapy or a death, by the subject after it: on or after the latest day, and no line.
+fn place_later(s: Subject, day: StudyDay, next: Subject) -> PlaceResult
+    ensures { λ x. ⌜ Behind s next [] (refusalBy (isRecorded (dayValue (s .death))) (ltb (day .0) (s .latest .0)) false) x ⌝ }
 {
-    refusal_behind(s, day.0 < s.latest.0, false)
-}
-
-fn place_therapy(s: Subject, day: StudyDay, date: Date) -> PlaceResult
-    ensures { λ x. ⌜ PlacesEntry s day (E.Therapy date) [] [] x ⌝ }
-{
-    let refusal = refusal_on_or_after(s, day);
+    let refusal = refusal_behind(s, day.0 < s.latest.0, false);
     if add_number(refusal) != 0 {
         return refused(s, refusal);
     }
-    let treated = with_therapy(s, day);
-    advanced(treated)
+    advanced(next)
 }
 
-fn place_death(s: Subject, day: StudyDay, date: Date) -> PlaceResult
-    ensures { λ x. ⌜ PlacesEntry s day (E.Death date) [] [] x ⌝ }
-{
-    let refusal = refusal_on_or_after(s, day);
-    if add_number(refusal) != 0 {
-        return refused(s, refusal);
-    }
-    let dead = with_death(s, day);
-    advanced(dead)
-}
-
-// A therapy and a death have nothing beside the date.
 fn place_on(s: Subject, day: StudyDay, r: Record) -> PlaceResult
     ensures { λ x. ⌜ PlacesEntry s day (r .entry) (r .marks) (r .sizes) x ⌝ }
 {
@@ -137,8 +118,8 @@ fn place_on(s: Subject, day: StudyDay, r: Record) -> PlaceResult
     match entry {
         Entry::Baseline(_) => refused(s, AddAnswer::SecondBaseline),
         Entry::Visit(v) => place_visit(s, day, v, marks, sizes),
-        Entry::Therapy(date) => place_therapy(s, day, date),
-        Entry::Death(date) => place_death(s, day, date),
+        Entry::Therapy(_) => place_later(s, day, with_therapy(s, day)),
+        Entry::Death(_) => place_later(s, day, with_death(s, day)),
     }
 }
 

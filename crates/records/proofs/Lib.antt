@@ -1,2 +1,3 @@
+pub mod AtTheEdges
 pub mod Answers
 pub mod Passed

@@ -1,2 +1,3 @@
 pub mod Form
 pub mod Refusals
+pub mod Examples

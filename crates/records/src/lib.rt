@@ -1,11 +1,12 @@
 // The record value and its own refusals, 3 to 5 (document 01, "Dates and records" and "Where a call stops").
 use dates::Date;
 ghost use mathlib.Core.Path.{_≡_};
-ghost use Prim.Native.Nat.{ℕ};
-ghost use Rattle.laws.specs.Choice.{either, pick};
+ghost use mathlib.Core.Bool.{false};
+ghost use Rattle.laws.specs.Choice.{either};
 ghost use Rattle.records.specs.Form.{dateOf};
-ghost use Rattle.records.specs.Refusals.{largeMeasured, sizedUnmeasured, someTarget, withoutDisease, outsideLimits, notZero, checkNumber, refusalOfRead, refusalOf};
-ghost use Rattle.records.specs.declared.Entry.the-variants.{Baseline};
+ghost use Rattle.records.specs.Refusals.{withoutDisease, outsideLimits, notZero, checkNumber, firstOwn, refusalOfRead, refusalOf};
+ghost use Rattle.records.specs.declared.Entry.the-variants.{Baseline, Visit};
+ghost use Rattle.records.specs.declared.VisitEntry.{VisitEntry};
 
 mod targets; // targets.rt: what some of the five targets breaks
 
@@ -100,7 +101,7 @@ fn not_zero(b: BaselineEntry, marks: [bool; 5], sizes: [u16; 5]) -> bool
 }
 
 fn first_of(outside: bool, set: bool) -> CheckAnswer
-    ensures { λ c. ⌜ checkNumber c ≡ pick outside 4 (pick set 5 0) ⌝ }
+    ensures { λ c. ⌜ checkNumber c ≡ firstOwn false outside set ⌝ }
 {
     if outside {
         return CheckAnswer::OutsideLimits;
@@ -114,7 +115,7 @@ fn first_of(outside: bool, set: bool) -> CheckAnswer
 // Refusals 4 and 5 of a visit. One test passes most visits: a target that is too large for its mark breaks 4 where it is measured, and
 // 5 where it is not.
 pub fn check_visit(unlawful: bool, marks: [bool; 5], sizes: [u16; 5], spare: bool) -> CheckAnswer
-    ensures { λ c. ⌜ checkNumber c ≡ pick (either unlawful (someTarget (λ (i : ℕ). largeMeasured) marks sizes)) 4 (pick (either spare (someTarget (λ (i : ℕ). sizedUnmeasured) marks sizes)) 5 0) ⌝ }
+    ensures { λ c. ⌜ ((v : VisitEntry) → checkNumber c ≡ firstOwn false (either unlawful (outsideLimits (Visit v) marks sizes)) (either spare (notZero (Visit v) marks sizes))) ⌝ }
 {
     if unlawful {
         return CheckAnswer::OutsideLimits;
@@ -127,7 +128,7 @@ pub fn check_visit(unlawful: bool, marks: [bool; 5], sizes: [u16; 5], spare: boo
 
 // Refusals 4 and 5, with a spare bit that is set beside them.
 fn check_fields(entry: Entry, marks: [bool; 5], sizes: [u16; 5], spare: bool) -> CheckAnswer
-    ensures { λ c. ⌜ checkNumber c ≡ pick (outsideLimits entry marks sizes) 4 (pick (either spare (notZero entry marks sizes)) 5 0) ⌝ }
+    ensures { λ c. ⌜ checkNumber c ≡ firstOwn false (outsideLimits entry marks sizes) (either spare (notZero entry marks sizes)) ⌝ }
 {
     match entry {
         Entry::Baseline(b) => {

@@ -6,7 +6,7 @@ use outcome::OutcomeAnswer;
 use records::Record;
 ghost use mathlib.Core.Path.{_≡_};
 ghost use Rattle.codec.specs.Reading.{recordOfBytes};
-ghost use Rattle.examples.specs.Replay.{recordsIn, Replayed};
+ghost use Rattle.history.specs.Replay.{recordsIn, Replayed};
 
 // The record in 11 bytes; the blank one, which opening and adding refuse by 3, where reading refuses them.
 fn record_in(part: &[u8]) -> Record
@@ -25,7 +25,7 @@ pub(crate) fn replay(bytes: &[u8]) -> OutcomeAnswer
     }
     let opened = opening::open_subject(record_in(&bytes[0..11]));
     let first = opened.answer;
-    print::opened(first);
+    print::print_opened(first);
     let mut subject = opened.subject;
     let mut k: usize = 1;
     while k < count {
@@ -34,7 +34,7 @@ pub(crate) fn replay(bytes: &[u8]) -> OutcomeAnswer
         k += 1;
         let addition = outcome::added(subject, record_in(&bytes[from..to]));
         let answer = addition.answer;
-        print::added(answer);
+        print::print_added(answer);
         let next = addition.subject;
         let _between = outcome::read_outcome(next);
         subject = next;

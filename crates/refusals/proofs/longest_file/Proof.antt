@@ -1,10 +1,10 @@
--- `examples::longest_file` meets its contract.
+-- `refusals::longest_file` meets its contract.
 -- Assumes nothing.
 use borrow.Author.Needs.{needs}
 use mathlib.Core.Path.{sym}
 use lib.Seq.{length-take-le}
-use Rattle.examples.proofs.longest_file.Statement.{statement}
-use Rattle.examples.proofs.longest_file.Tie as tie
+use Rattle.refusals.proofs.longest_file.Statement.{statement}
+use Rattle.refusals.proofs.longest_file.Tie as tie
 
 pub longest-file-spec : {M : Type 1} → statement M
 longest-file-spec =

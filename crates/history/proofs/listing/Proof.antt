@@ -1,11 +1,11 @@
--- `examples::listing` meets its contract.
+-- `history::listing` meets its contract.
 -- Assumes nothing.
 use borrow.Author.Needs.{needs}
 use mathlib.Core.Path.{sym}
 use lib.Seq.{length-take-le}
 use Rattle.listing.proofs.Pages.{within-page}
-use Rattle.examples.proofs.listing.Statement.{statement}
-use Rattle.examples.proofs.listing.Tie as tie
+use Rattle.history.proofs.listing.Statement.{statement}
+use Rattle.history.proofs.listing.Tie as tie
 
 pub listing-spec : {M : Type 1} → statement M
 listing-spec =

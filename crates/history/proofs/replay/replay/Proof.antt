@@ -1,13 +1,13 @@
--- `examples::replay::replay` meets its contract: the loop makes a list of calls, and demand 3 says what is read after it.
+-- `history::replay::replay` meets its contract: the loop makes a list of calls, and demand 3 says what is read after it.
 -- Assumes nothing.
 use borrow.Author.Needs.{needs}
 use native.Mathlib.Omega.{arith}
 use mathlib.Core.Path.{_≡_, refl}
 use Prim.Native.Nat.{_-_, _/_, _≤_}
 use lib.ListN.{length}
-use Rattle.examples.proofs.Steps.{Goes, turn, ended, empty, replayed}
-use Rattle.examples.proofs.replay.replay.Statement.{statement}
-use Rattle.examples.proofs.replay.replay.Tie as tie
+use Rattle.history.proofs.Steps.{Goes, turn, ended, empty, replayed}
+use Rattle.history.proofs.replay.replay.Statement.{statement}
+use Rattle.history.proofs.replay.replay.Tie as tie
 
 abbrev Inv-loop : tie.InvT-loop
 Inv-loop bytes count subject₀ k₀ subject k = (1 ≤ k) × (k ≤ count) × (count ≡ length bytes / 11) × Goes bytes count subject₀ subject k

@@ -1,4 +1,4 @@
--- Document 01, demand 3, of a replay: the calls that a byte string makes, and the claim on the last reading.
+-- Document 01, "Settled", demand 3, of a replay: the calls that a byte string makes, and the claim on the last reading.
 -- Assumes nothing.
 use mathlib.Core.Path.{_≡_}
 use mathlib.Core.List.{List, [], _∷_, map}

@@ -21,7 +21,7 @@ use Rattle.outcome.specs.Demand3.{Reply, Calls, none, adds, reads}
 use Rattle.outcome.proofs.Within.{calls-in-range}
 use Rattle.outcome.proofs.Demand.{demand3}
 use Rattle.parts.specs.Parts.{parts}
-use Rattle.examples.specs.Replay.{recordsIn, callsOf, Replayed}
+use Rattle.history.specs.Replay.{recordsIn, callsOf, Replayed}
 
 -- some replies to the calls of the records lead from a subject to another
 pub record Reached (s : Subject) (rs : List Record) (t : Subject) : Type 0 where

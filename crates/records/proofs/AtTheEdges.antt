@@ -1,0 +1,40 @@
+-- The examples are computed by the definitions. By its name this file is checked first, so that a wrong definition is refused at an example.
+-- Assumes nothing.
+use mathlib.Core.Path.{refl}
+use Rattle.dates.specs.Calendar.{leapYear, daysInMonth, dateExists}
+use Rattle.records.specs.Refusals.{wrongSize, largeMeasured, setBeyond, sizedUnmeasured, withoutDisease, outsideLimits, notZero, refusalOfRead}
+use Rattle.records.specs.Examples.{OwnRefusals}
+
+pub own-refusals : OwnRefusals
+unfolding leapYear daysInMonth dateExists wrongSize largeMeasured setBeyond sizedUnmeasured withoutDisease outsideLimits notZero refusalOfRead
+own-refusals =
+    record {
+      node15 = refl;
+      node14 = refl;
+      other10 = refl;
+      other9 = refl;
+      size500 = refl;
+      size501 = refl;
+      fiveTargets = refl;
+      fifthTarget = refl;
+      sixTargets = refl;
+      withoutDisease = refl;
+      nontargetAlone = refl;
+      measured0 = refl;
+      measured500 = refl;
+      measured501 = refl;
+      noStatus = refl;
+      markBeyond = refl;
+      sizeBeyond = refl;
+      unmeasured = refl;
+      missingAlone = refl;
+      missingNontarget = refl;
+      missingCount = refl;
+      missingNode = refl;
+      missingSize = refl;
+      therapyMark = refl;
+      deathSize = refl;
+      spareBit = refl;
+      dateFirst = refl;
+      limitsNext = refl;
+    }

@@ -1,0 +1,239 @@
+// Where a call stops (document 01): each refusal, the orders in which they are judged, and the longest file. The file `stdout`, to which what is printed
+// is held, is worked out by hand from document 01.
+use dates::StudyDay;
+use endpoints::MaybeDay;
+use file::FileAnswer;
+use file::FileRefusal;
+use held::CountingVisits;
+use held::EventDays;
+use held::Subject;
+use records::Record;
+
+fn text(line: &[u8]) {
+    io::write_all(libc::STDOUT_FILENO, line);
+}
+
+fn stopped(refusal: FileRefusal) {
+    text(b"F R ");
+    io::print_decimal(libc::STDOUT_FILENO, refusal.number as u64);
+    text(b" ");
+    io::print_decimal(libc::STDOUT_FILENO, refusal.index as u64);
+    text(b"\n");
+}
+
+// 2 to 5, a record's own, before those of opening and adding.
+fn own_refusals_of_files() {
+    // One target of 20; eleven zeros.
+    history::shown(
+        b"no such kind\n",
+        b"\x2F\xC8\x21\x88\x14\x00\x00\x00\x00\x00\x00\x00\x00\x00\x00\x00\x00\x00\x00\x00\x00\x00",
+    );
+    // One target of 20; a visit on day 43 (501), which reading refuses by 4.
+    history::shown(
+        b"a measured size of 501\n",
+        b"\x2F\xC8\x21\x88\x14\x00\x00\x00\x00\x00\x00\x4F\xC8\x4C\x0B\xEA\x00\x00\x00\x00\x00\x00",
+    );
+    // One target of 20; a visit on day 43 (not measured, with a size of 501), which reading refuses by 5.
+    history::shown(
+        b"an unmeasured size of 501\n",
+        b"\x2F\xC8\x21\x88\x14\x00\x00\x00\x00\x00\x00\x4F\xC8\x4C\x03\xEA\x00\x00\x00\x00\x00\x00",
+    );
+    // A baseline that is assessed, without targets and without non-target disease.
+    history::shown(
+        b"assessed without disease\n",
+        b"\x2F\xC8\x21\x80\x00\x00\x00\x00\x00\x00\x00",
+    );
+    // A baseline that is missing with count 7, which reading refuses by 5.
+    history::shown(
+        b"5 alone\n",
+        b"\x2F\xC8\x21\x38\x00\x00\x00\x00\x00\x00\x00",
+    );
+    // A visit with status 6, which reading refuses by 4; opening refuses the blank record by 3.
+    history::shown(
+        b"4 before 7\n",
+        b"\x4F\xC8\x4C\xC8\x31\x03\x00\x00\x00\x00\x00",
+    );
+    // The baseline of the printed example; the same on 2020-02-30.
+    history::shown(
+        b"3 before 8\n",
+        b"\x2F\xC8\x21\xD0\x28\x82\x80\x00\x00\x00\x00\x2F\xC8\x5E\xD0\x28\x82\x80\x00\x00\x00\x00",
+    );
+}
+
+// 7 to 11.
+fn placing_refusals() {
+    // A therapy, which opening refuses by 7; a visit, which the blank subject refuses by 12.
+    history::shown(
+        b"no baseline\n",
+        b"\x6F\xC8\x21\x00\x00\x00\x00\x00\x00\x00\x00\x4F\xC8\x4C\x48\x31\x03\x00\x00\x00\x00\x00",
+    );
+    // The baseline of the printed example twice.
+    history::shown(
+        b"a second baseline\n",
+        b"\x2F\xC8\x21\xD0\x28\x82\x80\x00\x00\x00\x00\x2F\xC8\x21\xD0\x28\x82\x80\x00\x00\x00\x00",
+    );
+    // The baseline of the printed example; death on day 5, therapy on day 6.
+    history::shown(
+        b"after a death\n",
+        b"\x2F\xC8\x21\xD0\x28\x82\x80\x00\x00\x00\x00\x8F\xC8\x25\x00\x00\x00\x00\x00\x00\x00\x00\x6F\xC8\x26\x00\x00\x00\x00\x00\x00\x00\x00",
+    );
+    // One target of 20; death on day 5, a visit on day 4 (20).
+    history::shown(
+        b"9 before 10\n",
+        b"\x2F\xC8\x21\x88\x14\x00\x00\x00\x00\x00\x00\x8F\xC8\x25\x00\x00\x00\x00\x00\x00\x00\x00\x4F\xC8\x24\x08\x28\x00\x00\x00\x00\x00\x00",
+    );
+    // The baseline of the printed example; a visit on day 1, which 10 meets.
+    history::shown(
+        b"a visit on day 1\n",
+        b"\x2F\xC8\x21\xD0\x28\x82\x80\x00\x00\x00\x00\x4F\xC8\x21\x48\x31\x03\x00\x00\x00\x00\x00",
+    );
+    // The baseline of the printed example; a therapy on 2019-12-31, which 10 meets.
+    history::shown(
+        b"before randomisation\n",
+        b"\x2F\xC8\x21\xD0\x28\x82\x80\x00\x00\x00\x00\x6F\xC7\x9F\x00\x00\x00\x00\x00\x00\x00\x00",
+    );
+    // One target of 20; visits on day 43 (20), and on the same day with two measured.
+    history::shown(
+        b"10 before 11\n",
+        b"\x2F\xC8\x21\x88\x14\x00\x00\x00\x00\x00\x00\x4F\xC8\x4C\x08\x28\x00\x00\x00\x00\x00\x00\x4F\xC8\x4C\x08\x29\x02\x80\x00\x00\x00\x00",
+    );
+    // One target of 20; a visit on day 43 with two measured.
+    history::shown(
+        b"a target beyond the count\n",
+        b"\x2F\xC8\x21\x88\x14\x00\x00\x00\x00\x00\x00\x4F\xC8\x4C\x08\x29\x05\x00\x00\x00\x00\x00",
+    );
+}
+
+// Refusal 13, and as many records as a file may have, of kind 0.
+fn lengths() {
+    // Nothing.
+    history::listed(b"no bytes\n", b"");
+    // The first baseline and one byte more.
+    history::listed(
+        b"twelve bytes\n",
+        b"\x2F\xC8\x21\xD0\x28\x82\x80\x00\x00\x00\x00\x00",
+    );
+    let zeros = [0u8; 44011];
+    history::listed(b"44,011 bytes\n", &zeros);
+    history::listed(b"44,001 bytes\n", &zeros[..44001]);
+    history::listed(b"44,000 bytes\n", &zeros[..44000]);
+}
+
+// 1 and 6 meet no file.
+fn bytes_of_one() {
+    let baseline = codec::read(b"\x2F\xC8\x21\xD0\x28\x82\x80\x00\x00\x00\x00");
+    let found = baseline.found;
+    let short = codec::read(b"\x2F\xC8\x21\xD0\x28\x82\x80\x00\x00\x00");
+    let unread = short.answer;
+    text(b"ten bytes read\n");
+    history::print_read(unread);
+    text(b"\n");
+    let mut out = [0u8; 10];
+    let unwritten = codec::write(found, &mut out);
+    text(b"into ten bytes written\n");
+    history::print_written(unwritten);
+    text(b"\n");
+}
+
+// What opening, adding, adding to a subject out of range, and writing into ten bytes answer for a record that 4 or 5 meets.
+fn own_refusal(name: &[u8], r: Record, held: Subject) {
+    text(name);
+    let opened = opening::open_subject(r);
+    let unopened = opened.answer;
+    let blank = opened.subject;
+    history::print_opened(unopened);
+    let added = outcome::added(held, r);
+    let unadded = added.answer;
+    history::print_added(unadded);
+    let outside = outcome::added(blank, r);
+    let unjudged = outside.answer;
+    history::print_added(unjudged);
+    text(b"\n");
+    let mut out = [0u8; 10];
+    let unwritten = codec::write(r, &mut out);
+    history::print_written(unwritten);
+    text(b"\n");
+}
+
+// The baseline of the printed example, and that baseline with a size of 501, and with a size beyond the count.
+fn own_refusals() {
+    let baseline = codec::read(b"\x2F\xC8\x21\xD0\x28\x82\x80\x00\x00\x00\x00");
+    let found = baseline.found;
+    let entry = found.entry;
+    let marks = found.marks;
+    let opened = opening::open_subject(found);
+    let held = opened.subject;
+    let large = Record {
+        entry: entry,
+        sizes: [501, 20, 0, 0, 0],
+        marks: marks,
+    };
+    let beyond = Record {
+        entry: entry,
+        sizes: [40, 20, 1, 0, 0],
+        marks: marks,
+    };
+    own_refusal(b"4 by the calls\n", large, held);
+    own_refusal(b"5 by the calls\n", beyond, held);
+}
+
+// 14 on a held subject that no lawful list leads to: PFS is censored on day 43, and the first response is on day 50.
+fn late_response() {
+    let baseline = codec::read(b"\x2F\xC8\x21\xD0\x28\x82\x80\x00\x00\x00\x00");
+    let found = baseline.found;
+    let opened = opening::open_subject(found);
+    let s = opened.subject;
+    let randomisation = s.randomisation;
+    let disease = s.baseline;
+    let earlier = s.earlier;
+    let late = Subject {
+        randomisation: randomisation,
+        nontarget: s.nontarget,
+        baseline: disease,
+        earlier: earlier,
+        latest: StudyDay(78),
+        therapy: false,
+        death: MaybeDay::Absent,
+        event: EventDays {
+            progression: MaybeDay::Absent,
+            previous: StudyDay(43),
+            evaluable: MaybeDay::On(StudyDay(43)),
+        },
+        counted: CountingVisits {
+            first: MaybeDay::On(StudyDay(50)),
+            start: MaybeDay::Absent,
+            cr: false,
+            pr: true,
+            sd: true,
+            pd: false,
+        },
+    };
+    text(b"a response behind the end of PFS\n");
+    match file::end_file(late, 3) {
+        FileAnswer::Refused(r) => stopped(r),
+        FileAnswer::Accepted(_) => text(b"accepted\n"),
+    }
+}
+
+fn longest(bytes: &[u8]) {
+    history::shown(b"the longest file\n", bytes);
+}
+
+// The longest file is standard input: randomisation on 1990-01-01 with targets 40 and node 20 and non-target disease, and 3,999 visits, on
+// days 10,000 to 13,997 and 40,177, all (0, 0) and NN. It is read in many chunks.
+fn longest_file() {
+    let mut bytes = io::large_buffer();
+    let read = input::read_input(&mut bytes);
+    longest(&bytes[..read.count]);
+}
+
+// Randomisation is on 2020-01-01 in each history but the longest.
+fn main() {
+    own_refusals_of_files();
+    placing_refusals();
+    lengths();
+    bytes_of_one();
+    own_refusals();
+    late_response();
+    longest_file();
+}
