@@ -1,3 +1,4 @@
+pub mod AtTheEdges
 pub mod Window
 pub mod Answers
 pub mod Parts

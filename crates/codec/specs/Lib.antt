@@ -3,3 +3,4 @@ pub mod Reading
 pub mod Fields
 pub mod Writing
 pub mod Laws
+pub mod Examples

@@ -6,7 +6,7 @@ use Rattle.criteria.specs.Targets.{allGone, grown, shrunk, targetAnswer}
 use Rattle.criteria.specs.Nadir.{nadirOf}
 use Rattle.criteria.specs.Overall.{overallAnswer}
 use Rattle.criteria.specs.Change.{changeBetween, changeOf}
-use Rattle.criteria.specs.Examples.{Edges, WrongReadings, Printed}
+use Rattle.criteria.specs.Examples.{Edges, OrdersAndPlaces, GridRows, WrongReadings, Printed}
 
 pub edges : Edges
 unfolding measuredSum baselineSum allMeasured allGone grown shrunk targetAnswer nadirOf
@@ -22,6 +22,26 @@ edges =
       node10 = refl;
       oneMeasured = refl;
     }
+
+pub orders-and-places : OrdersAndPlaces
+unfolding measuredSum baselineSum allMeasured allGone grown shrunk targetAnswer nadirOf
+orders-and-places =
+    record {
+      noTargets = refl;
+      completeFirst = refl;
+      otherOf1 = refl;
+      five70 = refl;
+      five71 = refl;
+      fifthUnmeasured = refl;
+      fifthLeft = refl;
+      withinCount = refl;
+      measuredAlone = refl;
+      seenAgain = refl;
+    }
+
+pub grid-rows : GridRows
+unfolding overallAnswer
+grid-rows = record { overCR = refl; overNA = refl; overPR = refl; overSD = refl; overNE = refl }
 
 pub wrong-readings : WrongReadings
 unfolding measuredSum baselineSum allMeasured allGone grown shrunk targetAnswer nadirOf overallAnswer

@@ -128,4 +128,14 @@ unfolding changeOf
 unmeasured b v e = rw (e, either-with-true (eqb (b .count) 0))
 
 pub change-laws : ChangeLaws
-change-laws = record { rounded = rounded; half = half; lessThanHalf = less-than-half; noTargets = no-targets; unmeasured = unmeasured }
+unfolding changeBetween
+change-laws =
+    record {
+      rounded = rounded;
+      half = half;
+      lessThanHalf = less-than-half;
+      upwards = refl;
+      downwards = refl;
+      noTargets = no-targets;
+      unmeasured = unmeasured;
+    }

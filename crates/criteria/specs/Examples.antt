@@ -3,14 +3,16 @@
 -- Assumes nothing.
 use mathlib.Core.Path.{_≡_}
 use mathlib.Core.Bool.{Bool, true, false}
-use mathlib.Core.List.{List, [], _∷_}
+use mathlib.Core.List.{List, [], _∷_, map}
 use Prim.Native.Nat.{ℕ}
 use lib.ListN.{length}
 use Rattle.dates.specs.Laws.{ymd}
+use Rattle.records.specs.declared.Status.{Status}
 use Rattle.records.specs.declared.Status.the-variants as S
-use Rattle.criteria.specs.Words.{CR, PR, SD, PD, NE}
+use Rattle.criteria.specs.Words.{Word, CR, PR, SD, PD, NE, NA, statusWord}
 use Rattle.criteria.specs.Inputs.{Visit, diseaseOf}
-use Rattle.criteria.specs.Overall.{isPD}
+use Rattle.criteria.specs.Sums.{measuredSum, baselineSum}
+use Rattle.criteria.specs.Overall.{isPD, overallAnswer}
 use Rattle.criteria.specs.Change.{signed}
 use Rattle.criteria.specs.Visits.{visitTarget, visitOverall, visitChange}
 use Rattle.criteria.specs.declared.BaselineDisease.{BaselineDisease}
@@ -42,6 +44,39 @@ pub record Edges : Type 0 where
   pub node10 : visitTarget (baselineWith (true ∷ []) (20 ∷ 40 ∷ [])) [] (measuring (10 ∷ 0 ∷ [])) ≡ PR
   -- 14: two targets, nadir 50, one measured 62
   pub oneMeasured : visitTarget (baselineWith [] (70 ∷ 30 ∷ [])) (measuring (40 ∷ 10 ∷ []) ∷ []) (measuring (62 ∷ [])) ≡ PD
+
+-- five targets of 20
+abbrev pub fiveTargets : BaselineDisease
+fiveTargets = baselineWith [] (20 ∷ 20 ∷ 20 ∷ 20 ∷ 20 ∷ [])
+
+pub record OrdersAndPlaces : Type 0 where
+  -- 1 before every other: no targets
+  pub noTargets : visitTarget (baselineWith [] []) [] (measuring []) ≡ NA
+  -- 2 before 3: a normal node that has grown by 9 from 0
+  pub completeFirst : visitTarget (baselineWith (true ∷ []) (20 ∷ [])) (measuring (0 ∷ []) ∷ []) (measuring (9 ∷ [])) ≡ CR
+  -- any other target is 0
+  pub otherOf1 : visitTarget (baselineWith [] (20 ∷ [])) [] (measuring (1 ∷ [])) ≡ PR
+  -- the fifth target is one of them: in both sums, measured, and gone
+  pub five70 : visitTarget fiveTargets [] (measuring (14 ∷ 14 ∷ 14 ∷ 14 ∷ 14 ∷ [])) ≡ PR
+  pub five71 : visitTarget fiveTargets [] (measuring (14 ∷ 14 ∷ 14 ∷ 14 ∷ 15 ∷ [])) ≡ SD
+  pub fifthUnmeasured : visitTarget fiveTargets [] (measuring (20 ∷ 20 ∷ 20 ∷ 20 ∷ [])) ≡ NE
+  pub fifthLeft : visitTarget fiveTargets [] (measuring (0 ∷ 0 ∷ 0 ∷ 0 ∷ 1 ∷ [])) ≡ PR
+  -- no size beyond the count, and none that was not measured
+  pub withinCount : baselineSum 1 (100 ∷ 50 ∷ []) ≡ 100
+  pub measuredAlone : measuredSum (true ∷ false ∷ []) (40 ∷ 30 ∷ []) ≡ 40
+  -- disease seen again after CR has no rule of its own
+  pub seenAgain : visitTarget (baselineWith [] (100 ∷ [])) (measuring (0 ∷ []) ∷ []) (measuring (4 ∷ [])) ≡ PR
+
+-- a target row of the grid over the non-target answers CR, NN, NE and NA
+abbrev pub row : Word → List Word
+row target = map (λ (s : Status). overallAnswer true false target (statusWord s)) (S.CR ∷ S.NN ∷ S.NE ∷ S.NA ∷ [])
+
+pub record GridRows : Type 0 where
+  pub overCR : row CR ≡ CR ∷ PR ∷ PR ∷ CR ∷ []
+  pub overNA : row NA ≡ CR ∷ SD ∷ NE ∷ NE ∷ []
+  pub overPR : row PR ≡ PR ∷ PR ∷ PR ∷ PR ∷ []
+  pub overSD : row SD ≡ SD ∷ SD ∷ SD ∷ SD ∷ []
+  pub overNE : row NE ≡ NE ∷ NE ∷ NE ∷ NE ∷ []
 
 pub record WrongReadings : Type 0 where
   -- growth against baseline alone: the sum is half the baseline's and three times the nadir

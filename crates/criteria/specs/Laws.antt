@@ -37,6 +37,9 @@ pub record ChangeLaws : Type 0 where
   -- halves away from zero: −0.05 %; zero has no sign: −0.04 %
   pub half : changeBetween 2000 1999 ≡ signed true 1
   pub lessThanHalf : changeBetween 2500 2499 ≡ signed false 0
+  -- upwards and downwards: 50.0 % either way
+  pub upwards : changeBetween 100 150 ≡ signed false 500
+  pub downwards : changeBetween 100 50 ≡ signed true 500
   -- none without targets, or with one unmeasured
   pub noTargets : (b : BaselineDisease) (v : Visit) → b .count ≡ 0 → visitChange b v ≡ none
   pub unmeasured : (b : BaselineDisease) (v : Visit) → allMeasured (b .count) (v .measured) ≡ false → visitChange b v ≡ none

@@ -8,16 +8,18 @@ use Rattle.criteria.specs.Sums.{measuredSum, baselineSum, allMeasured}
 use Rattle.criteria.specs.Targets.{allGone, grown, shrunk, targetAnswer}
 use Rattle.criteria.specs.Nadir.{nadirOf}
 use Rattle.criteria.specs.Overall.{overallAnswer}
+use Rattle.criteria.specs.Change.{changeBetween, changeOf}
 use Rattle.endpoints.specs.StudyRecords.{entryPasses}
 use Rattle.endpoints.specs.Lawful.{measuredBeyond, fitsBy, fits}
 use Rattle.endpoints.specs.Visits.{judge}
 use Rattle.endpoints.specs.Pfs.{gapLimit, earlyDeath, pfs}
 use Rattle.endpoints.specs.Best.{best, duration}
+use Rattle.endpoints.specs.Lines.{lineOf}
 use Rattle.endpoints.specs.Settled.{settledFrom, pfsSettledBy, bestSettledBy, durationSettledBy, pfsSettled, bestSettled, durationSettled}
 use Rattle.endpoints.specs.Adding.{refusalBehind, refusalOfOpening, refusalOfAdding}
 use Rattle.endpoints.specs.Examples.{starred, Hold}
-use Rattle.endpoints.specs.FurtherExamples.{further}
-use Rattle.endpoints.specs.AddingExamples.{Unlawful, OnStudyDays, FirstRefusals}
+use Rattle.endpoints.specs.FurtherExamples.{further, PrintedLines}
+use Rattle.endpoints.specs.AddingExamples.{Unlawful, FittingStatuses, OnStudyDays, FirstRefusals}
 
 pub examples-hold : Hold starred × Hold further
 unfolding starred further entryPasses wrongSize largeMeasured setBeyond sizedUnmeasured withoutDisease outsideLimits notZero measuredBeyond fitsBy fits measuredSum baselineSum allMeasured allGone grown shrunk targetAnswer nadirOf overallAnswer judge gapLimit earlyDeath pfs best duration settledFrom pfsSettledBy bestSettledBy durationSettledBy pfsSettled bestSettled durationSettled
@@ -27,6 +29,7 @@ pub unlawful : Unlawful
 unfolding measuredBeyond fitsBy fits
 unlawful =
     record {
+      nothing = refl;
       withoutBaseline = refl;
       secondBaseline = refl;
       afterDeath = refl;
@@ -35,9 +38,18 @@ unlawful =
       visitOnLatest = refl;
       visitOnDay1 = refl;
       beyondCount = refl;
+      fifthBeyondCount = refl;
       statusWithoutLesions = refl;
       lesionsWithoutStatus = refl;
     }
+
+pub fitting-statuses : FittingStatuses
+unfolding measuredBeyond fitsBy fits
+fitting-statuses = record { withLesions = refl; withoutLesions = refl }
+
+pub printed-lines : PrintedLines
+unfolding lineOf measuredSum baselineSum allMeasured allGone grown shrunk targetAnswer nadirOf overallAnswer changeBetween changeOf
+printed-lines = record { inOrder = refl }
 
 pub on-study-days : OnStudyDays
 unfolding dateExists daysInMonth leapYear daysOfYears daysOfMonths dayNumber studyDayOf

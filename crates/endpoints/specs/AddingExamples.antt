@@ -3,21 +3,27 @@
 -- Assumes nothing.
 use mathlib.Core.Path.{_≡_}
 use mathlib.Core.Bool.{Bool, true, false}
-use mathlib.Core.List.{List, [], _∷_}
+use mathlib.Core.List.{List, [], _∷_, map}
 use Rattle.dates.specs.declared.Date.{Date}
 use Rattle.dates.specs.Laws.{ymd}
+use Rattle.records.specs.declared.Status.{Status}
 use Rattle.records.specs.declared.Status.the-variants as S
 use Rattle.records.specs.declared.Record.{Record}
 use Rattle.records.specs.Examples.{baselineDated, visitDated, therapyDated, deathDated}
-use Rattle.endpoints.specs.StudyRecords.{StudyRecord, baseline, therapy, death, onStudyDays}
+use Rattle.endpoints.specs.StudyRecords.{Baseline, StudyRecord, baseline, therapy, death, onStudyDays}
 use Rattle.endpoints.specs.Lawful.{lawful}
-use Rattle.endpoints.specs.Examples.{oneTarget, withNode, visitOn, measuring}
+use Rattle.endpoints.specs.Examples.{withTargets, oneTarget, withNode, visitOn, measuring}
 use Rattle.endpoints.specs.Adding.{refusalOfOpening, refusalOfAdding, add, read, accepted}
 
 abbrev pub behindOneTarget : List StudyRecord → Bool
 behindOneTarget rs = lawful (baseline oneTarget ∷ rs)
 
+-- four targets of 20 and no other disease
+abbrev pub fourTargets : Baseline
+fourTargets = withTargets false [] (20 ∷ 20 ∷ 20 ∷ 20 ∷ [])
+
 pub record Unlawful : Type 0 where
+  pub nothing : lawful [] ≡ false
   pub withoutBaseline : lawful (measuring 43 90 ∷ []) ≡ false
   pub secondBaseline : behindOneTarget (baseline oneTarget ∷ []) ≡ false
   pub afterDeath : behindOneTarget (death 43 ∷ therapy 43 ∷ []) ≡ false
@@ -26,8 +32,17 @@ pub record Unlawful : Type 0 where
   pub visitOnLatest : behindOneTarget (therapy 43 ∷ measuring 43 90 ∷ []) ≡ false
   pub visitOnDay1 : behindOneTarget (measuring 1 90 ∷ []) ≡ false
   pub beyondCount : behindOneTarget (visitOn 43 S.NA false (0 ∷ 0 ∷ []) ∷ []) ≡ false
+  pub fifthBeyondCount : lawful (baseline fourTargets ∷ visitOn 43 S.NA false (20 ∷ 20 ∷ 20 ∷ 20 ∷ 20 ∷ []) ∷ []) ≡ false
   pub statusWithoutLesions : behindOneTarget (visitOn 43 S.CR false (90 ∷ []) ∷ []) ≡ false
   pub lesionsWithoutStatus : lawful (baseline withNode ∷ visitOn 43 S.NA false (0 ∷ 0 ∷ []) ∷ []) ≡ false
+
+-- status 0 exactly when no non-target lesions were recorded: which of NA, CR, NN, PD and NE fit
+abbrev pub fitting : Baseline → List Bool
+fitting b = map (λ (s : Status). lawful (baseline b ∷ visitOn 43 s false [] ∷ [])) (S.NA ∷ S.CR ∷ S.NN ∷ S.PD ∷ S.NE ∷ [])
+
+pub record FittingStatuses : Type 0 where
+  pub withLesions : fitting withNode ≡ false ∷ true ∷ true ∷ true ∷ true ∷ []
+  pub withoutLesions : fitting oneTarget ≡ true ∷ false ∷ false ∷ false ∷ false ∷ []
 
 -- the baseline and the first visit of the printed example
 abbrev pub printedBaseline : Date → Record

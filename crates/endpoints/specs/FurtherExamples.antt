@@ -1,18 +1,38 @@
 -- Document 01, "Examples at the edges", 7 and 11, the outcome of the printed example, and cases in which one sentence of "Outcome" applies and a similar
 -- one does not; proved in proofs/AtTheEdges.antt.
 -- Assumes nothing.
+use mathlib.Core.Path.{_≡_}
 use mathlib.Core.Bool.{true, false}
-use mathlib.Core.List.{List, [], _∷_}
+use mathlib.Core.List.{List, [], _∷_, reverse}
 use Rattle.records.specs.declared.Status.the-variants as S
-use Rattle.criteria.specs.Words.{CR, PR, SD, PD, NE}
+use Rattle.criteria.specs.Words.{CR, PR, SD, PD, NE, NN}
+use Rattle.criteria.specs.Change.{signed}
 use Rattle.endpoints.specs.Values.{EVENT, CENSORED, event, censored, forDays}
-use Rattle.endpoints.specs.StudyRecords.{Baseline, therapy, death}
+use Rattle.endpoints.specs.StudyRecords.{Baseline, StudyRecord, therapy, death}
 use Rattle.endpoints.specs.Lawful.{Past}
+use Rattle.endpoints.specs.Lines.{visitLines}
 use Rattle.endpoints.specs.Examples.{oneTarget, withNode, noTargets, missing, visitOn, measuring, unmeasured, Said, is, pfsIs, bestIs, durationIs, pfsOfList, bestOfList, durationOfList, pfsSettledOfList, bestSettledOfList, durationSettledOfList, Example, example}
 
--- the printed example
+-- the visits of the printed example
+abbrev pub visit43 : StudyRecord
+visit43 = visitOn 43 S.NN false (24 ∷ 12 ∷ [])
+
+abbrev pub visit85 : StudyRecord
+visit85 = visitOn 85 S.NN false (0 ∷ 9 ∷ [])
+
+abbrev pub visit127 : StudyRecord
+visit127 = visitOn 127 S.NN false (0 ∷ 15 ∷ [])
+
 abbrev pub printed : (Baseline → Past → Said) → Said → Example
-printed = example withNode (visitOn 43 S.NN false (24 ∷ 12 ∷ []) ∷ visitOn 85 S.NN false (0 ∷ 9 ∷ []) ∷ visitOn 127 S.NN false (0 ∷ 15 ∷ []) ∷ []) (PR ∷ PR ∷ PD ∷ [])
+printed = example withNode (visit43 ∷ visit85 ∷ visit127 ∷ []) (PR ∷ PR ∷ PD ∷ [])
+
+-- its V lines in the order recorded; a therapy and a death have none
+pub record PrintedLines : Type 0 where
+  pub inOrder : visitLines withNode (reverse (visit43 ∷ therapy 50 ∷ visit85 ∷ visit127 ∷ death 130 ∷ []))
+      ≡ record { day = 43; target = PR; nontarget = NN; overall = PR; change = signed true 400 }
+      ∷ record { day = 85; target = CR; nontarget = NN; overall = PR; change = signed true 850 }
+      ∷ record { day = 127; target = PD; nontarget = NN; overall = PD; change = signed true 750 }
+      ∷ []
 
 unfoldable pub further : List Example
 further =
@@ -48,6 +68,10 @@ further =
     -- neither progression nor death
     ∷ example oneTarget [] [] pfsOfList (pfsIs (censored 1))
     ∷ example oneTarget (measuring 43 90 ∷ unmeasured 85 ∷ []) (SD ∷ NE ∷ []) pfsOfList (pfsIs (censored 43))
+    ∷ example oneTarget (measuring 43 60 ∷ unmeasured 85 ∷ []) (PR ∷ NE ∷ []) pfsOfList (pfsIs (censored 43))
+    ∷ example oneTarget (measuring 43 0 ∷ unmeasured 85 ∷ []) (CR ∷ NE ∷ []) pfsOfList (pfsIs (censored 43))
+    -- disease seen again after CR has no rule of its own
+    ∷ example oneTarget (measuring 43 0 ∷ measuring 85 4 ∷ []) (CR ∷ PR ∷ []) pfsOfList (pfsIs (censored 85))
     -- a progression before a death, and one after a therapy
     ∷ example oneTarget (measuring 43 90 ∷ measuring 85 200 ∷ death 90 ∷ []) (SD ∷ PD ∷ []) pfsOfList (pfsIs (event 85))
     ∷ example oneTarget (therapy 20 ∷ measuring 43 200 ∷ []) (PD ∷ []) bestOfList (bestIs NE)

@@ -42,7 +42,7 @@ fn held_subjects() {
     );
 }
 
-// Examples 7, 11 and 14, and a confirmed complete response.
+// Examples 7, 11, 13 and 14, and a confirmed complete response.
 fn edges() {
     // One target of 20; visits on days 43 (0), 60 (not measured) and 71 (0).
     history::shown(
@@ -74,9 +74,14 @@ fn edges() {
         b"example 14\n",
         b"\x2F\xC8\x21\x90\x46\x03\xC0\x00\x00\x00\x00\x4F\xC8\x4C\x08\x51\x02\x80\x00\x00\x00\x00\x4F\xC8\x79\x08\x7C\x00\x00\x00\x00\x00\x00",
     );
+    // The baseline of the printed example; visits on days 43 (0, 9), 85, 127 and 169 (all the same), with CR, NE, CR and PD.
+    history::shown(
+        b"example 13, and a progression of non-target disease\n",
+        b"\x2F\xC8\x21\xD0\x28\x82\x80\x00\x00\x00\x00\x4F\xC8\x4C\x28\x01\x02\x40\x00\x00\x00\x00\x4F\xC8\x79\x88\x01\x02\x40\x00\x00\x00\x00\x4F\xC8\xA6\x28\x01\x02\x40\x00\x00\x00\x00\x4F\xC8\xD1\x68\x01\x02\x40\x00\x00\x00\x00",
+    );
 }
 
-// Gaps before a progression and a death.
+// Progressions and deaths, with gaps before them.
 fn endings() {
     // One target of 20; visits on days 43 (not measured) and 141 (30).
     history::shown(
@@ -102,6 +107,11 @@ fn endings() {
     history::shown(
         b"therapy and death on day 1\n",
         b"\x2F\xC8\x21\xD0\x28\x82\x80\x00\x00\x00\x00\x6F\xC8\x21\x00\x00\x00\x00\x00\x00\x00\x00\x8F\xC8\x21\x00\x00\x00\x00\x00\x00\x00\x00",
+    );
+    // One target of 20; a visit on day 43 (20) with a new lesion.
+    history::shown(
+        b"a new lesion\n",
+        b"\x2F\xC8\x21\x88\x14\x00\x00\x00\x00\x00\x00\x4F\xC8\x4C\x18\x28\x00\x00\x00\x00\x00\x00",
     );
 }
 

@@ -1,11 +1,11 @@
 -- The tests of code as the definitions have them, and what `both` and `either` say of their parts.
 -- Assumes nothing.
-use mathlib.Core.Path.{_≡_, refl, sym}
-use mathlib.Core.Bool.{Bool, true, false, not}
+use mathlib.Core.Path.{_≡_, refl, sym, _∙_, ap}
+use mathlib.Core.Bool.{Bool, true, false, not, Bool·not-not}
 use Prim.Native.Nat.{ℕ}
 use native.Mathlib.Omega.{arith}
 use lib.Dec.{leb, ltb}
-use borrow.Author.Tests.{lt-ltb, le-ltb, le-leb, lt-leb, eq-eqb, ne-eqb, leb-true, leb-false, ltb-true, ltb-false}
+use borrow.Author.Tests.{lt-ltb, le-ltb, le-leb, lt-leb, eq-eqb, ne-eqb, leb-true, leb-false}
 use Rattle.laws.specs.Choice.{both, either}
 
 pub ruleset tests = (lt-ltb, le-ltb, le-leb, lt-leb, eq-eqb, ne-eqb)
@@ -46,8 +46,4 @@ not-leb m n = go (leb m n) refl
     go false e = sym (lt-ltb n m (leb-false m n e))
 
 pub not-ltb : (m n : ℕ) → not (ltb m n) ≡ leb n m
-not-ltb m n = go (ltb m n) refl
-  where
-    go : (x : Bool) → ltb m n ≡ x → not x ≡ leb n m
-    go true e = sym (lt-leb n m (ltb-true m n e))
-    go false e = sym (le-leb n m (ltb-false m n e))
+not-ltb m n = sym (ap not (not-leb n m)) ∙ Bool·not-not (leb n m)

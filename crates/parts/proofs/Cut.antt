@@ -1,4 +1,4 @@
--- Where 13 does not meet a file, its parts have 11 bytes each and joined are the file.
+-- Lengths at the edges of 13; and where it does not meet a file, its parts have 11 bytes each and joined are the file.
 -- Assumes nothing.
 use mathlib.Core.Path.{_≡_, refl, _∙_, ap}
 use mathlib.Core.Bool.{false, not}
@@ -11,7 +11,12 @@ use lib.ListN.{length, take, drop, take-append-drop, length-drop}
 use lib.Seq.{length-take-le}
 use Rattle.laws.proofs.Tests.{either-false}
 use Rattle.codec.specs.Bytes.{recordLength}
-use Rattle.parts.specs.Parts.{mostBytes, badLength, parts, joined, AllEleven, Cuts}
+use Rattle.parts.specs.Parts.{mostBytes, badLength, parts, joined, AllEleven, LengthsAtTheEdges, Cuts}
+
+pub lengths-at-the-edges : LengthsAtTheEdges
+unfolding badLength
+lengths-at-the-edges =
+    record { nothing = refl; oneRecord = refl; oneByteMore = refl; mostRecords = refl; mostAndAByte = refl; mostAndARecord = refl }
 
 -- what 13 leaves
 pub fair-length : (n : ℕ) → badLength n ≡ false → (1 ≤ n) × (n % 11 ≡ 0) × (n ≤ mostBytes)

@@ -2,19 +2,18 @@
 -- Assumes nothing.
 use mathlib.Core.Path.{refl}
 use Rattle.text.specs.Numerals.{decimal}
-use Rattle.text.specs.Text.{tenthsText, visitText, pfsText, bestText, durationText, settledText, refusalText}
+use Rattle.text.specs.Text.{tenthsText, visitText, pfsText, bestText, durationText, settledText, outcomeText, refusalText}
 use Rattle.text.specs.Examples.{LinesAtTheEdges}
 
 pub lines-at-the-edges : LinesAtTheEdges
-unfolding decimal tenthsText visitText pfsText bestText durationText settledText refusalText
+unfolding decimal tenthsText visitText pfsText bestText durationText settledText outcomeText refusalText
 lines-at-the-edges =
     record {
       first = refl;
       last = refl;
-      pfs = refl;
-      best = refl;
-      duration = refl;
-      settled = refl;
+      outcome = refl;
+      words = refl;
+      complete = refl;
       censored = refl;
       noDays = refl;
       bestAlone = refl;

@@ -3,11 +3,11 @@
 use mathlib.Core.Path.{_≡_}
 use mathlib.Core.Bool.{true, false}
 use mathlib.Core.List.{[], _∷_}
-use Rattle.criteria.specs.Words.{PR, PD, NN}
+use Rattle.criteria.specs.Words.{CR, PR, SD, PD, NE, NA, NN}
 use Rattle.criteria.specs.Change.{none, signed}
-use Rattle.endpoints.specs.Values.{CENSORED, event, noDuration, forDays, EVENT}
+use Rattle.endpoints.specs.Values.{CENSORED, event, noDuration, forDays, EVENT, Outcome}
 use Rattle.endpoints.specs.Lines.{VisitLine}
-use Rattle.text.specs.Text.{changeText, visitText, pfsText, bestText, durationText, settledText, refusalText}
+use Rattle.text.specs.Text.{changeText, visitText, bestText, durationText, settledText, outcomeText, refusalText}
 
 -- V 43 PR NN PR -40.0 and V 127 PD NN PD -75.0
 abbrev firstVisit : VisitLine
@@ -16,15 +16,26 @@ firstVisit = record { day = 43; target = PR; nontarget = NN; overall = PR; chang
 abbrev lastVisit : VisitLine
 lastVisit = record { day = 127; target = PD; nontarget = NN; overall = PD; change = signed true 750 }
 
+abbrev otherWords : VisitLine
+otherWords = record { day = 7; target = NA; nontarget = NE; overall = SD; change = none }
+
+abbrev printedOutcome : Outcome
+printedOutcome =
+    record { pfs = event 127; best = PR; duration = forDays EVENT 85; pfsSettled = true; bestSettled = true; durationSettled = true }
+
 pub record LinesAtTheEdges : Type 0 where
   pub first : visitText firstVisit ≡ 86 ∷ 32 ∷ 52 ∷ 51 ∷ 32 ∷ 80 ∷ 82 ∷ 32 ∷ 78 ∷ 78 ∷ 32 ∷ 80 ∷ 82 ∷ 32 ∷ 45 ∷ 52 ∷ 48 ∷ 46 ∷ 48 ∷ 10 ∷ []
   pub last : visitText lastVisit
       ≡ 86 ∷ 32 ∷ 49 ∷ 50 ∷ 55 ∷ 32 ∷ 80 ∷ 68 ∷ 32 ∷ 78 ∷ 78 ∷ 32 ∷ 80 ∷ 68 ∷ 32 ∷ 45 ∷ 55 ∷ 53 ∷ 46 ∷ 48 ∷ 10 ∷ []
   -- P EVENT 127, B PR, D EVENT 85, S 1 1 1
-  pub pfs : pfsText (event 127) ≡ 80 ∷ 32 ∷ 69 ∷ 86 ∷ 69 ∷ 78 ∷ 84 ∷ 32 ∷ 49 ∷ 50 ∷ 55 ∷ 10 ∷ []
-  pub best : bestText PR ≡ 66 ∷ 32 ∷ 80 ∷ 82 ∷ 10 ∷ []
-  pub duration : durationText (forDays EVENT 85) ≡ 68 ∷ 32 ∷ 69 ∷ 86 ∷ 69 ∷ 78 ∷ 84 ∷ 32 ∷ 56 ∷ 53 ∷ 10 ∷ []
-  pub settled : settledText true true true ≡ 83 ∷ 32 ∷ 49 ∷ 32 ∷ 49 ∷ 32 ∷ 49 ∷ 10 ∷ []
+  pub outcome : outcomeText printedOutcome
+      ≡ 80 ∷ 32 ∷ 69 ∷ 86 ∷ 69 ∷ 78 ∷ 84 ∷ 32 ∷ 49 ∷ 50 ∷ 55 ∷ 10
+      ∷ 66 ∷ 32 ∷ 80 ∷ 82 ∷ 10
+      ∷ 68 ∷ 32 ∷ 69 ∷ 86 ∷ 69 ∷ 78 ∷ 84 ∷ 32 ∷ 56 ∷ 53 ∷ 10
+      ∷ 83 ∷ 32 ∷ 49 ∷ 32 ∷ 49 ∷ 32 ∷ 49 ∷ 10 ∷ []
+  -- V 7 NA NE SD - and B CR, for the other words
+  pub words : visitText otherWords ≡ 86 ∷ 32 ∷ 55 ∷ 32 ∷ 78 ∷ 65 ∷ 32 ∷ 78 ∷ 69 ∷ 32 ∷ 83 ∷ 68 ∷ 32 ∷ 45 ∷ 10 ∷ []
+  pub complete : bestText CR ≡ 66 ∷ 32 ∷ 67 ∷ 82 ∷ 10 ∷ []
   -- D CENSORED 29, D none, S 0 1 0
   pub censored : durationText (forDays CENSORED 29) ≡ 68 ∷ 32 ∷ 67 ∷ 69 ∷ 78 ∷ 83 ∷ 79 ∷ 82 ∷ 69 ∷ 68 ∷ 32 ∷ 50 ∷ 57 ∷ 10 ∷ []
   pub noDays : durationText noDuration ≡ 68 ∷ 32 ∷ 110 ∷ 111 ∷ 110 ∷ 101 ∷ 10 ∷ []
