@@ -21,7 +21,7 @@ use Rattle.records.specs.declared.CheckAnswer.{CheckAnswer}
 use Rattle.records.specs.declared.CheckAnswer.the-variants as C
 use Rattle.codec.specs.Bytes.{recordLength, bytesNumber, bytesOf}
 use Rattle.codec.specs.Fields.{fieldAt}
-use Rattle.codec.specs.Reading.{readNumber, isKind, visitIn, rawIn, refusalOfRaw, refusalOfNumber, refusalOfBytes, blank, recordOfBytes, Judged, Reads}
+use Rattle.codec.specs.Reading.{readNumber, isKind, visitIn, rawIn, refusalOfRaw, refusalOfNumber, refusalOfBytes, blank, recordOfBytes, JudgesRead, Reads}
 use Rattle.codec.specs.Writing.{writeNumber, refusalOfWrite, outputOf, Writes}
 use Rattle.codec.specs.declared.Raw.{Raw}
 use Rattle.codec.specs.declared.ReadAnswer.the-variants as R
@@ -32,22 +32,22 @@ use Rattle.codec.specs.declared.WriteAnswer.the-variants as W
 -- ---- judging what was read: `search` finds the premises by itself
 
 module _ (w : Raw) (a : CheckAnswer) (x : ReadResult) (e : checkNumber a ≡ refusalOfRaw w) where
-  judged-refused : (n : ℕ) → checkNumber a ≡ suc n → readNumber (x .answer) ≡ suc n → x .found ≡ blank → Judged w x
+  judged-refused : (n : ℕ) → checkNumber a ≡ suc n → readNumber (x .answer) ≡ suc n → x .found ≡ blank → JudgesRead w x
   judged-refused n p r f =
       let q : refusalOfRaw w ≡ suc n = sym e ∙ p in
       record { answer = r ∙ sym q; found = f ∙ rw (q, ne-eqb (suc n) 0 (omega arith)) }
 
-  pub judged-no-date : a ≡ C.NoSuchDate → (x .answer ≡ R.NoSuchDate) × (x .found ≡ blank) → Judged w x
+  pub judged-no-date : a ≡ C.NoSuchDate → (x .answer ≡ R.NoSuchDate) × (x .found ≡ blank) → JudgesRead w x
   judged-no-date p q = judged-refused 2 (ap checkNumber p) (ap readNumber (q .0)) (q .1)
 
-  pub judged-outside : a ≡ C.OutsideLimits → (x .answer ≡ R.OutsideLimits) × (x .found ≡ blank) → Judged w x
+  pub judged-outside : a ≡ C.OutsideLimits → (x .answer ≡ R.OutsideLimits) × (x .found ≡ blank) → JudgesRead w x
   judged-outside p q = judged-refused 3 (ap checkNumber p) (ap readNumber (q .0)) (q .1)
 
-  pub judged-not-zero : a ≡ C.NotZero → (x .answer ≡ R.NotZero) × (x .found ≡ blank) → Judged w x
+  pub judged-not-zero : a ≡ C.NotZero → (x .answer ≡ R.NotZero) × (x .found ≡ blank) → JudgesRead w x
   judged-not-zero p q = judged-refused 4 (ap checkNumber p) (ap readNumber (q .0)) (q .1)
 
 pub judged-passed : (w : Raw) (a : CheckAnswer) (r : Record) → checkNumber a ≡ refusalOfRaw w → r ≡ w .read → a ≡ C.Passed →
-    Judged w (record { answer = R.Done; found = r })
+    JudgesRead w (record { answer = R.Done; found = r })
 judged-passed w a r e f p =
     let q : refusalOfRaw w ≡ 0 = sym e ∙ ap checkNumber p in
     record { answer = sym q; found = rw q f }
@@ -55,21 +55,21 @@ judged-passed w a r e f p =
 -- ---- judging a visit
 
 module _ (n : ℕ) (w : Raw) (we : w ≡ visitIn n) (d : Date) (de : d ≡ dateOf (w .read .entry)) (b : Bool) (be : b ≡ dateExists d) where
-  pub visit-no-date : not b ≡ true → (x : ReadResult) → (x .answer ≡ R.NoSuchDate) × (x .found ≡ blank) → Judged (visitIn n) x
+  pub visit-no-date : not b ≡ true → (x : ReadResult) → (x .answer ≡ R.NoSuchDate) × (x .found ≡ blank) → JudgesRead (visitIn n) x
   unfolding refusalOfRead
   visit-no-date h x q =
       let r : 3 ≡ refusalOfRaw w = rw (← de, ← be, h) in
       rw (← we) (judged-no-date w C.NoSuchDate x r refl q)
 
   module _ (h : not b ≡ false) (a : CheckAnswer)
-      (ae : (v : VisitEntry) → checkNumber a ≡ firstOwn false (either (w .unlawful) (outsideLimits (E.Visit v) (w .read .marks) (w .read .sizes))) (either (w .spare) (notZero (E.Visit v) (w .read .marks) (w .read .sizes)))) where
+      (ae : (v : VisitEntry) → checkNumber a ≡ firstOwn false (either (w .badstatus) (outsideLimits (E.Visit v) (w .read .marks) (w .read .sizes))) (either (w .spare) (notZero (E.Visit v) (w .read .marks) (w .read .sizes)))) where
     visit-refusal : checkNumber a ≡ refusalOfRaw w
     unfolding refusalOfRead visitIn
     visit-refusal =
         let e : w .read .entry ≡ E.Visit _ = ap (λ (r : Raw). r .read .entry) we in
         rw (← de, ← be, h, e) (ae _)
 
-    pub visit-judged : (x : ReadResult) → ((u : Raw) → checkNumber a ≡ refusalOfRaw u → w .read ≡ u .read → Judged u x) → Judged (visitIn n) x
+    pub visit-judged : (x : ReadResult) → ((u : Raw) → checkNumber a ≡ refusalOfRaw u → w .read ≡ u .read → JudgesRead u x) → JudgesRead (visitIn n) x
     visit-judged x j = rw (← we) (j w visit-refusal refl)
 
 -- ---- reading
@@ -93,13 +93,13 @@ module _ (s : List ℕ) (x : ReadResult) (b : AreBytes s) where
       unfolding refusalOfBytes refusalOfNumber
       reads-no-kind h q = reads-refused 1 (rw (eq-eqb (length s) recordLength l, ← ke, ← known-e, h)) (ap readNumber (q .0)) (q .1)
 
-      pub reads-judged : not known ≡ false → (w : Raw) → w ≡ rawIn kind (bytesNumber s) → Judged w x → Reads s x
+      pub reads-judged : not known ≡ false → (w : Raw) → w ≡ rawIn kind (bytesNumber s) → JudgesRead w x → Reads s x
       unfolding refusalOfBytes refusalOfNumber recordOfBytes
       reads-judged h w we j =
           let q : refusalOfBytes s ≡ refusalOfRaw w = rw (eq-eqb (length s) recordLength l, ← ke, ← known-e, h, we) in
           record { answer = j .answer ∙ sym q; found = j .found ∙ rw (q, ← ke, we); octets = b }
 
-    pub reads-visit : kind ≡ 2 → Judged (visitIn (bytesNumber s)) x → Reads s x
+    pub reads-visit : kind ≡ 2 → JudgesRead (visitIn (bytesNumber s)) x → Reads s x
     reads-visit e = reads-judged true (rw e) refl (visitIn (bytesNumber s)) (visit-raw kind (bytesNumber s) e)
 
 -- ---- writing

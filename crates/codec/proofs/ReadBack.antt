@@ -39,7 +39,7 @@ status-back NE = refl
 
 -- a record as it is read where nothing is out of place
 abbrev full : Entry → List Bool → List ℕ → Raw
-full e m s = record { read = record { entry = e; sizes = s; marks = m }; unlawful = false; spare = false }
+full e m s = record { read = record { entry = e; sizes = s; marks = m }; badstatus = false; spare = false }
 
 module _ (m : List Bool) (s : List ℕ) (lm : length m ≡ 5) (ls : length s ≡ 5) where
   sizes-back : sizesFrom (targetFields m s) ≡ s

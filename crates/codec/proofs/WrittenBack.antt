@@ -45,7 +45,7 @@ baseline-again n k p =
     let z : getD (unpack baselineLayout n) 17 0 ≡ 0 = omega (arith, ltb-false 0 (getD (unpack baselineLayout n) 17 0) p) in
     simp bit-mod (rw (k, z))
 
-visit-again : (n : ℕ) → kindIn n ≡ 2 → visitIn n .unlawful ≡ false → visitIn n .spare ≡ false → Again n (visitIn n)
+visit-again : (n : ℕ) → kindIn n ≡ 2 → visitIn n .badstatus ≡ false → visitIn n .spare ≡ false → Again n (visitIn n)
 unfolding visitIn
 visit-again n k u p =
     let z : getD (unpack visitLayout n) 16 0 ≡ 0 = omega (arith, ltb-false 0 (getD (unpack visitLayout n) 16 0) p) in
@@ -54,7 +54,7 @@ visit-again n k u p =
 spare-clear : (n : ℕ) → ltb 0 (getD (unpack spareLayout n) 4 0) ≡ false → getD (unpack spareLayout n) 4 0 ≡ 0
 spare-clear n p = omega (arith, ltb-false 0 (getD (unpack spareLayout n) 4 0) p)
 
-raw-again : (n k : ℕ) → kindIn n ≡ k → 1 ≤ k → k ≤ 4 → rawIn k n .unlawful ≡ false → rawIn k n .spare ≡ false → Again n (rawIn k n)
+raw-again : (n k : ℕ) → kindIn n ≡ k → 1 ≤ k → k ≤ 4 → rawIn k n .badstatus ≡ false → rawIn k n .spare ≡ false → Again n (rawIn k n)
 unfolding rawIn spareIn
 raw-again n k t l g u p = go (eqb k 1) refl (eqb k 2) refl (eqb k 3) refl
   where
@@ -83,7 +83,7 @@ number-again n w h a =
 record Fine (n : ℕ) : Type 0 where
   low : 1 ≤ kindIn n
   high : kindIn n ≤ 4
-  passed : Passes (rawIn (kindIn n) n .read) (rawIn (kindIn n) n .unlawful) (rawIn (kindIn n) n .spare)
+  passed : Passes (rawIn (kindIn n) n .read) (rawIn (kindIn n) n .badstatus) (rawIn (kindIn n) n .spare)
 
 fine : (n : ℕ) → refusalOfNumber n ≡ 0 → Fine n
 unfolding refusalOfNumber
@@ -92,7 +92,7 @@ fine n e = go (leb 1 (kindIn n)) refl (leb (kindIn n) 4) refl
     go : (a : Bool) → leb 1 (kindIn n) ≡ a → (b : Bool) → leb (kindIn n) 4 ≡ b → Fine n
     go true p true q =
         let w = rawIn (kindIn n) n in
-        record { low = leb-true 1 (kindIn n) p; high = leb-true (kindIn n) 4 q; passed = passes (w .read) (w .unlawful) (w .spare) (rw (p, q) at e) }
+        record { low = leb-true 1 (kindIn n) p; high = leb-true (kindIn n) 4 q; passed = passes (w .read) (w .badstatus) (w .spare) (rw (p, q) at e) }
     go true p false q = absurd (let z : _≡_ {A = ℕ} 2 0 = rw (p, q) at e in let w : ⊥ = omega arith in w)
     go false p b q = absurd (let z : _≡_ {A = ℕ} 2 0 = rw p at e in let w : ⊥ = omega arith in w)
 

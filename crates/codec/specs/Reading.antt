@@ -59,7 +59,7 @@ baselineFrom f = record {
     sizes = sizesFrom (drop 7 f);
     marks = marksFrom (drop 7 f);
   };
-  unlawful = false;
+  badstatus = false;
   spare = ltb 0 (getD f 17 0);
 }
 
@@ -70,12 +70,12 @@ visitFrom f = record {
     sizes = sizesFrom (drop 6 f);
     marks = marksFrom (drop 6 f);
   };
-  unlawful = ltb 4 (getD f 4 0);
+  badstatus = ltb 4 (getD f 4 0);
   spare = ltb 0 (getD f 16 0);
 }
 
 abbrev pub spareFrom : Entry → List ℕ → Raw
-spareFrom e f = record { read = untargeted e; unlawful = false; spare = ltb 0 (getD f 4 0) }
+spareFrom e f = record { read = untargeted e; badstatus = false; spare = ltb 0 (getD f 4 0) }
 
 unfoldable pub baselineIn : ℕ → Raw
 baselineIn n = baselineFrom (unpack baselineLayout n)
@@ -100,7 +100,7 @@ rawIn kind n =
     (pick (eqb kind 2) (visitIn n) (pick (eqb kind 3) (spareIn (Therapy (dateIn n)) n) (spareIn (Death (dateIn n)) n)))
 
 abbrev pub refusalOfRaw : Raw → ℕ
-refusalOfRaw w = refusalOfRead (w .read) (w .unlawful) (w .spare)
+refusalOfRaw w = refusalOfRead (w .read) (w .badstatus) (w .spare)
 
 abbrev pub isKind : ℕ → Bool
 isKind kind = both (leb 1 kind) (leb kind 4)
@@ -118,7 +118,7 @@ abbrev pub blank : Record
 blank = untargeted (Therapy (record { year = 0; month = 0; day = 0 }))
 
 -- the promise of judging what was read
-pub record Judged (w : Raw) (x : ReadResult) : Type 0 where
+pub record JudgesRead (w : Raw) (x : ReadResult) : Type 0 where
   pub answer : readNumber (x .answer) ≡ refusalOfRaw w
   pub found : x .found ≡ pick (eqb (refusalOfRaw w) 0) (w .read) blank
 

@@ -116,7 +116,7 @@ fn baseline_in(s: &[u8]) -> Raw
     };
     Raw {
         read: read,
-        unlawful: false,
+        badstatus: false,
         spare: 0 < field(s, BASELINE_SPARE, 4),
     }
 }
@@ -142,7 +142,7 @@ pub(crate) fn visit_in(s: &[u8]) -> Raw
     };
     Raw {
         read: read,
-        unlawful: 4 < number,
+        badstatus: 4 < number,
         spare: 0 < field(s, VISIT_SPARE, 5),
     }
 }
@@ -183,7 +183,7 @@ fn spare_in(s: &[u8], entry: Entry) -> Raw
     let spare = body_set(s);
     Raw {
         read: read,
-        unlawful: false,
+        badstatus: false,
         spare: spare,
     }
 }

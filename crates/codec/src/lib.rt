@@ -5,7 +5,7 @@ ghost use mathlib.Core.Path.{_≡_};
 ghost use lib.ListN.{length};
 ghost use Rattle.records.specs.Refusals.{checkNumber};
 ghost use Rattle.codec.specs.Bytes.{recordLength, bytesNumber};
-ghost use Rattle.codec.specs.Reading.{isKind, visitIn, refusalOfRaw, blank, Judged, Reads};
+ghost use Rattle.codec.specs.Reading.{isKind, visitIn, refusalOfRaw, blank, JudgesRead, Reads};
 ghost use Rattle.codec.specs.declared.Raw.{Raw};
 ghost use Rattle.codec.specs.Writing.{Writes};
 
@@ -40,7 +40,7 @@ pub enum WriteAnswer {
 pub(crate) struct Raw {
     pub(crate) read: Record,
     // A status that is none.
-    pub(crate) unlawful: bool,
+    pub(crate) badstatus: bool,
     // A spare bit that is set.
     pub(crate) spare: bool,
 }
@@ -59,7 +59,7 @@ fn refused(answer: ReadAnswer) -> ReadResult
 
 // A record that was read, by what its own refusals said of it.
 fn answered(answer: CheckAnswer, found: Record) -> ReadResult
-    ensures { λ x. ⌜ ((w : Raw) → checkNumber answer ≡ refusalOfRaw w → found ≡ w .read → Judged w x) ⌝ }
+    ensures { λ x. ⌜ ((w : Raw) → checkNumber answer ≡ refusalOfRaw w → found ≡ w .read → JudgesRead w x) ⌝ }
 {
     match answer {
         CheckAnswer::NoSuchDate => refused(ReadAnswer::NoSuchDate),
@@ -74,10 +74,10 @@ fn answered(answer: CheckAnswer, found: Record) -> ReadResult
 
 // The record, or the first of 3 to 5 that meets it.
 fn judged(raw: Raw) -> ReadResult
-    ensures { λ x. ⌜ Judged raw x ⌝ }
+    ensures { λ x. ⌜ JudgesRead raw x ⌝ }
 {
     let found = raw.read;
-    let answer = records::check_read(found, raw.unlawful, raw.spare);
+    let answer = records::check_read(found, raw.badstatus, raw.spare);
     answered(answer, found)
 }
 
@@ -103,7 +103,7 @@ pub fn read(s: &[u8]) -> ReadResult
 // A visit, or the first of 3 to 5 that meets it.
 fn read_visit(s: &[u8]) -> ReadResult
     requires { ⌜ length (now s) ≡ recordLength ⌝ }
-    ensures { λ x. ⌜ Judged (visitIn (bytesNumber (now (s .entry)))) x ⌝ }
+    ensures { λ x. ⌜ JudgesRead (visitIn (bytesNumber (now (s .entry)))) x ⌝ }
 {
     let raw = decode::visit_in(s);
     let found = raw.read;
@@ -113,7 +113,7 @@ fn read_visit(s: &[u8]) -> ReadResult
     if !dates::date_exists(records::date_of(entry)) {
         return refused(ReadAnswer::NoSuchDate);
     }
-    let answer = records::check_visit(raw.unlawful, marks, sizes, raw.spare);
+    let answer = records::check_visit(raw.badstatus, marks, sizes, raw.spare);
     answered(answer, found)
 }
 

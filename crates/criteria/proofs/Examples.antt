@@ -36,6 +36,7 @@ orders-and-places =
       fifthLeft = refl;
       withinCount = refl;
       measuredAlone = refl;
+      evaluables = refl;
       seenAgain = refl;
     }
 

@@ -12,7 +12,7 @@ use Rattle.records.specs.declared.Status.the-variants as S
 use Rattle.criteria.specs.Words.{Word, CR, PR, SD, PD, NE, NA, statusWord}
 use Rattle.criteria.specs.Inputs.{Visit, diseaseOf}
 use Rattle.criteria.specs.Sums.{measuredSum, baselineSum}
-use Rattle.criteria.specs.Overall.{isPD, overallAnswer}
+use Rattle.criteria.specs.Overall.{isPD, overallAnswer, evaluable}
 use Rattle.criteria.specs.Change.{signed}
 use Rattle.criteria.specs.Visits.{visitTarget, visitOverall, visitChange}
 use Rattle.criteria.specs.declared.BaselineDisease.{BaselineDisease}
@@ -64,6 +64,8 @@ pub record OrdersAndPlaces : Type 0 where
   -- no size beyond the count, and none that was not measured
   pub withinCount : baselineSum 1 (100 ∷ 50 ∷ []) ≡ 100
   pub measuredAlone : measuredSum (true ∷ false ∷ []) (40 ∷ 30 ∷ []) ≡ 40
+  -- evaluable means other than NE
+  pub evaluables : map evaluable (CR ∷ PR ∷ SD ∷ PD ∷ NE ∷ []) ≡ true ∷ true ∷ true ∷ true ∷ false ∷ []
   -- disease seen again after CR has no rule of its own
   pub seenAgain : visitTarget (baselineWith [] (100 ∷ [])) (measuring (0 ∷ []) ∷ []) (measuring (4 ∷ [])) ≡ PR
 

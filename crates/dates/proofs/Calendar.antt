@@ -140,4 +140,14 @@ calendar-laws =
 pub calendar-edges : CalendarEdges
 unfolding dayNumberOf dateExists dayNumber daysOfYears daysOfMonths daysInMonth leapYear
 calendar-edges =
-    record { first = refl; last = refl; tooEarly = refl; tooLate = refl; leapDay2000 = refl; dayAfter = refl; noLeapDay = refl }
+    record {
+      first = refl;
+      last = refl;
+      tooEarly = refl;
+      tooLate = refl;
+      leapDay2000 = refl;
+      dayAfter = refl;
+      firstDays = refl;
+      last31 = refl;
+      noLeapDay = refl;
+    }

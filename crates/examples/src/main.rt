@@ -1,4 +1,4 @@
-// Histories of document 01: the printed example, examples 7, 11 and 14, and what stands beside them. The file `stdout`, to which what they print is
+// Histories of document 01: the printed example, examples 7, 11, 13 and 14, and what stands beside them. The file `stdout`, to which what they print is
 // held, is worked out by hand from document 01.
 
 // Opening, adding and reading, with refused additions, a therapy and a missing baseline.
@@ -42,7 +42,7 @@ fn held_subjects() {
     );
 }
 
-// Examples 7, 11, 13 and 14, and a confirmed complete response.
+// Examples 7, 11 and 14, and a confirmed complete response.
 fn edges() {
     // One target of 20; visits on days 43 (0), 60 (not measured) and 71 (0).
     history::shown(
@@ -74,10 +74,19 @@ fn edges() {
         b"example 14\n",
         b"\x2F\xC8\x21\x90\x46\x03\xC0\x00\x00\x00\x00\x4F\xC8\x4C\x08\x51\x02\x80\x00\x00\x00\x00\x4F\xC8\x79\x08\x7C\x00\x00\x00\x00\x00\x00",
     );
+}
+
+// Non-target answers CR, NN, NE and PD, with targets and without.
+fn nontarget_disease() {
     // The baseline of the printed example; visits on days 43 (0, 9), 85, 127 and 169 (all the same), with CR, NE, CR and PD.
     history::shown(
         b"example 13, and a progression of non-target disease\n",
         b"\x2F\xC8\x21\xD0\x28\x82\x80\x00\x00\x00\x00\x4F\xC8\x4C\x28\x01\x02\x40\x00\x00\x00\x00\x4F\xC8\x79\x88\x01\x02\x40\x00\x00\x00\x00\x4F\xC8\xA6\x28\x01\x02\x40\x00\x00\x00\x00\x4F\xC8\xD1\x68\x01\x02\x40\x00\x00\x00\x00",
+    );
+    // No targets, non-target disease; visits on days 43 (NN), 85 (CR) and 127 (CR).
+    history::shown(
+        b"non-target disease alone\n",
+        b"\x2F\xC8\x21\xC0\x00\x00\x00\x00\x00\x00\x00\x4F\xC8\x4C\x40\x00\x00\x00\x00\x00\x00\x00\x4F\xC8\x79\x20\x00\x00\x00\x00\x00\x00\x00\x4F\xC8\xA6\x20\x00\x00\x00\x00\x00\x00\x00",
     );
 }
 
@@ -148,6 +157,7 @@ fn changes() {
 fn main() {
     held_subjects();
     edges();
+    nontarget_disease();
     endings();
     changes();
 }

@@ -10,10 +10,12 @@ use borrow.Author.Tests.{ltb-true, ltb-false}
 use lib.ListN.{getD, length, take, drop, List·getD-eq-default, length-take}
 use lib.Seq.{getD-take, getD-drop}
 use Rattle.laws.specs.Choice.{either}
+use Rattle.laws.proofs.Cases.{Some, pick-some}
 use Rattle.packing.specs.Layout.{AreBytes}
 use Rattle.dates.specs.Calendar.{dateExists}
 use Rattle.records.specs.Form.{dateOf, Five}
-use Rattle.records.specs.Refusals.{outsideLimits, notZero, firstOwn, refusalOfRead}
+use Rattle.records.specs.Refusals.{outsideLimits, notZero, refusalOfRead}
+use Rattle.records.proofs.Passed.{some-own}
 use Rattle.codec.specs.declared.ReadAnswer.the-variants as R
 use Rattle.codec.specs.declared.ReadResult.{ReadResult}
 use Rattle.codec.specs.Bytes.{recordLength, bytesNumber}
@@ -21,24 +23,19 @@ use Rattle.codec.specs.Reading.{readNumber, kindIn, rawIn, isKind, refusalOfNum
 use Rattle.codec.proofs.Found.{found-five}
 use Rattle.held.specs.declared.Subject.{Subject}
 use Rattle.outcome.specs.Promises.{nextSubject}
-use Rattle.outcome.proofs.Runs.{Some, pick-some, some-refusal, opens as some-opening, readable}
+use Rattle.outcome.proofs.Runs.{some-refusal, opens as some-opening, readable}
 use Rattle.parts.specs.Parts.{badLength, parts, partsOf}
 use Rattle.file.specs.Singly.{Adds, none, adds, opens, Called}
 use Rattle.parts.proofs.Cut.{one-part}
 
 -- each number that refuses bytes, and 0, is that of some case of reading's answer
-some-own : (noDate outside set : Bool) → Some readNumber (firstOwn noDate outside set)
-some-own noDate outside set =
-    pick-some readNumber noDate 3 _ (R.NoSuchDate, refl)
-    (pick-some readNumber outside 4 _ (R.OutsideLimits, refl) (pick-some readNumber set 5 0 (R.NotZero, refl) (R.Done, refl)))
-
 some-number : (n : ℕ) → Some readNumber (refusalOfNumber n)
 unfolding refusalOfNumber refusalOfRead
 some-number n =
     let w = rawIn (kindIn n) n in
     let r = w .read in
     pick-some readNumber (not (isKind (kindIn n))) 2 _ (R.NoSuchKind, refl)
-    (some-own (not (dateExists (dateOf (r .entry)))) (either (w .unlawful) (outsideLimits (r .entry) (r .marks) (r .sizes)))
+    (some-own readNumber (R.NoSuchDate, refl) (R.OutsideLimits, refl) (R.NotZero, refl) (R.Done, refl) (not (dateExists (dateOf (r .entry)))) (either (w .badstatus) (outsideLimits (r .entry) (r .marks) (r .sizes)))
     (either (w .spare) (notZero (r .entry) (r .marks) (r .sizes))))
 
 some-bytes : (s : List ℕ) → Some readNumber (refusalOfBytes s)

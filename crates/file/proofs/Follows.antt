@@ -53,6 +53,20 @@ pub record Taken (rs : List Record) (s : Subject) : Type 0 where
   pub held : Held entry marks sizes later s
   pub passes : fieldsPass (baseline (base entry marks sizes)) ≡ true
 
+-- one record more that adding accepts
+pub taken-more : {rs : List Record} {s t : Subject} {a : AddAnswer} (h : Taken rs s) (r : Record) → Added s r a t →
+    eqb (refusalOfAdding (first (h .entry) (h .marks) (h .sizes) ∷ h .later) r) 0 ≡ true → Taken (rs ++ (r ∷ [])) t
+taken-more h r added accepts =
+    record {
+      entry = h .entry;
+      marks = h .marks;
+      sizes = h .sizes;
+      later = h .later ++ (r ∷ []);
+      opens = ap (λ (l : List Record). l ++ (r ∷ [])) (h .opens);
+      held = grown (h .entry) (h .marks) (h .sizes) (h .later) r (h .held) added accepts;
+      passes = h .passes;
+    }
+
 -- no refusal: reading refuses nothing, and the number after it is 0
 pub none-read : (part : List ℕ) (n : ℕ) → afterReading part n ≡ 0 → (refusalOfBytes part ≡ 0) × (n ≡ 0)
 none-read part n e = go (eqb (refusalOfBytes part) 0) refl
@@ -136,15 +150,7 @@ module _ {rs : List Record} {s : Subject} (t : Taken rs s) (part : List ℕ) (x 
       let next : x .subject ≡ nextSubject s r =
       w .left ∙ (rw (eq-eqb (refusalTaking s part) 0 none, held-number read, eq-eqb (refusalOnDay s r) 0 (none-read part (refusalOnDay s r) none .1))) in
       let added : Added s r (some-added .0) (x .subject) = record { answer = some-added .1 .answer; left = next } in
-      record {
-        entry = t .entry;
-        marks = t .marks;
-        sizes = t .sizes;
-        later = t .later ++ (r ∷ []);
-        opens = ap (λ (l : List Record). l ++ (r ∷ [])) (t .opens);
-        held = grown (t .entry) (t .marks) (t .sizes) (t .later) r (t .held) added accepts;
-        passes = t .passes;
-      }
+      taken-more t r added accepts
 
 -- ---- behind the last record
 

@@ -18,25 +18,12 @@ use Rattle.file.specs.declared.TakenRecord.{TakenRecord}
 use Rattle.parts.specs.Parts.{badLength, parts, partsOf}
 use Rattle.file.specs.File.{refusalOfPart, refused, verdictFrom, verdictOf, fileValues, Judges}
 use Rattle.file.specs.Taking.{TakesFirst, Takes, Ends}
-use Rattle.parts.proofs.Cut.{one-part}
+use Rattle.parts.proofs.Cut.{one-part, partAt, partsFrom, one-more}
 use Rattle.file.proofs.Follows.{Taken, first-taken, later-number, later-taken, ending}
 
 -- the parts from index k on
 abbrev pub from : List ℕ → ℕ → List (List ℕ)
-from l k = parts (length l / 11 - k) (drop (k * 11) l)
-
-module _ (l : List ℕ) (k : ℕ) where
-  abbrev pub partAt : List ℕ
-  partAt = take (k * 11 + 11 - k * 11) (drop (k * 11) l)
-
-  pub one-more : k < length l / 11 → from l k ≡ partAt ∷ from l (k + 1)
-  one-more h =
-      let e : length l / 11 - k ≡ suc (length l / 11 - (k + 1)) = omega arith in
-      let f : k * 11 + 11 ≡ (k + 1) * 11 = omega arith in
-      let g : k * 11 + 11 - k * 11 ≡ 11 = omega arith in
-      rw (e, g)
-      (ap (λ (m : List ℕ). take 11 (drop (k * 11) l) ∷ parts (length l / 11 - (k + 1)) m)
-      (drop-drop 11 (k * 11) l ∙ ap (λ (j : ℕ). drop j l) f))
+from l k = partsFrom l (length l / 11) k
 
 -- the records before index k are taken, and the verdict of the file is that of the rest behind them; with the rest they are all the file's records
 pub record Standing (l : List ℕ) (s : Subject) (k : ℕ) : Type 0 where
@@ -67,7 +54,7 @@ module _ (l : List ℕ) (fair : badLength (length l) ≡ false) where
 module _ (l : List ℕ) (s : Subject) (k : ℕ) (w : Standing l s k) where
   module _ (h : k < length l / 11) (x : TakenRecord) (v : Takes s (partAt l k) x) where
     pub next-part : verdictOf l ≡ verdictFrom (w .before) k (partAt l k ∷ from l (k + 1))
-    next-part = w .rest ∙ ap (verdictFrom (w .before) k) (one-more l k h)
+    next-part = w .rest ∙ ap (verdictFrom (w .before) k) (one-more l (length l / 11) k h)
 
     pub number : x .number ≡ refusalOfPart (w .before) (partAt l k)
     number = later-number (w .taken) (partAt l k) x v
@@ -88,7 +75,7 @@ module _ (l : List ℕ) (s : Subject) (k : ℕ) (w : Standing l s k) where
               (ap (λ (j : ℕ). verdictFrom (w .before ++ (recordOfBytes (partAt l k) ∷ [])) j (from l (k + 1))) (sym (add-one k)));
           all =
               append-assoc (w .before) (recordOfBytes (partAt l k) ∷ []) (map recordOfBytes (from l (k + 1)))
-              ∙ ap (λ (ps : List (List ℕ)). w .before ++ map recordOfBytes ps) (sym (one-more l k h)) ∙ w .all;
+              ∙ ap (λ (ps : List (List ℕ)). w .before ++ map recordOfBytes ps) (sym (one-more l (length l / 11) k h)) ∙ w .all;
         }
 
   pub ended : length l / 11 ≤ k → (a : FileAnswer) → Ends s (k - 1) a → Judges l a

@@ -25,14 +25,14 @@ use Rattle.placing.specs.declared.AddAnswer.{AddAnswer}
 use Rattle.placing.specs.Refusals.{addNumber}
 use Rattle.outcome.specs.declared.OutcomeAnswer.{OutcomeAnswer}
 use Rattle.outcome.specs.Promises.{Added, outcome, readingValues, Told}
-use Rattle.outcome.proofs.Demand.{first, number, grown}
+use Rattle.outcome.proofs.Demand.{first, number}
 use Rattle.parts.specs.Parts.{badLength, partsOf}
 use Rattle.file.specs.File.{afterReading, refusalOfPart, Verdict, refused, accepted, verdictOn, verdictFrom, verdictOf}
 use Rattle.file.specs.Singly.{numberOf, Adds, none, adds, Singly, opens, Stop, never, at, firstRefusal, AsSingly}
 use Rattle.file.proofs.Verdicts.{apart, accepted-same}
 use Rattle.parts.proofs.Cut.{length-parts, cut}
 use Rattle.file.proofs.Called.{called}
-use Rattle.file.proofs.Follows.{Taken, none-read, opened-taken, EndsBy, told-verdict}
+use Rattle.file.proofs.Follows.{Taken, taken-more, none-read, opened-taken, EndsBy, told-verdict}
 
 -- reading's number, then the other, is the part's refusal
 read-then : (part : List ℕ) (x : ReadResult) (n m : ℕ) → Reads part x → n ≡ m → numberOf x n ≡ afterReading part m
@@ -56,15 +56,7 @@ module _ {rs : List Record} {s t : Subject} {part : List ℕ} {x : ReadResult} {
       let none-met : afterReading part (refusalOfAdding rs r) ≡ 0 = sym (read-then part x (addNumber a) (refusalOfAdding rs r) w adding) ∙ z in
       let accepts : eqb (refusalOfAdding (first (h .entry) (h .marks) (h .sizes) ∷ h .later) r) 0 ≡ true =
       eq-eqb _ 0 (ap (λ (l : List Record). refusalOfAdding l r) (sym (h .opens)) ∙ none-read part (refusalOfAdding rs r) none-met .1) in
-      record {
-        entry = h .entry;
-        marks = h .marks;
-        sizes = h .sizes;
-        later = h .later ++ (r ∷ []);
-        opens = ap (λ (l : List Record). l ++ (r ∷ [])) (h .opens);
-        held = grown (h .entry) (h .marks) (h .sizes) (h .later) r (h .held) added-found accepts;
-        passes = h .passes;
-      }
+      taken-more h r added-found accepts
 
 -- behind the last record, where nothing stopped it
 record Ended (k : ℕ) (ps : List (List ℕ)) (v : Verdict) (t : Subject) : Type 0 where

@@ -2,12 +2,10 @@
 -- Assumes nothing.
 use mathlib.Core.Path.{_≡_, sym, ap, _∙_, subst}
 use mathlib.Core.List.{List, _∷_, [], map}
-use Prim.Native.Nat.{ℕ, suc, _+_, _-_, _*_, _/_, _≤_, _<_}
+use Prim.Native.Nat.{ℕ, suc, _+_, _-_, _/_, _≤_, _<_}
 use native.Mathlib.Omega.{arith}
-use lib.ListN.{length, take, drop}
-use lib.Seq.{drop-drop}
+use lib.ListN.{length, take}
 use Rattle.records.specs.declared.Record.{Record}
-use Rattle.codec.specs.Bytes.{recordLength}
 use Rattle.codec.specs.Reading.{recordOfBytes}
 use Rattle.endpoints.specs.Adding.{Call}
 use Rattle.held.specs.declared.Subject.{Subject}
@@ -21,6 +19,7 @@ use Rattle.outcome.specs.Demand3.{Reply, Calls, none, adds, reads}
 use Rattle.outcome.proofs.Within.{calls-in-range}
 use Rattle.outcome.proofs.Demand.{demand3}
 use Rattle.parts.specs.Parts.{parts}
+use Rattle.parts.proofs.Cut.{partAt, partsFrom, one-more}
 use Rattle.history.specs.Replay.{recordsIn, callsOf, Replayed}
 
 -- some replies to the calls of the records lead from a subject to another
@@ -33,27 +32,19 @@ one-turn w q c = record { replied = _; calls = adds w (reads q (c .calls)) }
 
 -- the records from number k on, of count in all
 abbrev pub from : List ℕ → ℕ → ℕ → List Record
-from l count k = map recordOfBytes (parts (count - k) (drop (k * recordLength) l))
+from l count k = map recordOfBytes (partsFrom l count k)
 
 -- what is left to replay completes the whole
 abbrev pub Goes : List ℕ → ℕ → Subject → Subject → ℕ → Type 0
 Goes l count first s k = (t : Subject) → Reached s (from l count k) t → Reached first (from l count 1) t
 
 module _ (l : List ℕ) (count k : ℕ) where
-  one-more : k < count → from l count k ≡ recordOfBytes (take recordLength (drop (k * recordLength) l)) ∷ from l count (k + 1)
-  one-more h =
-      let e : count - k ≡ suc (count - (k + 1)) = omega arith in
-      let f : k * recordLength + recordLength ≡ (k + 1) * recordLength = omega arith in
-      rw e
-      (ap (λ (m : List ℕ). recordOfBytes (take recordLength (drop (k * recordLength) l)) ∷ map recordOfBytes (parts (count - (k + 1)) m))
-      (drop-drop recordLength (k * recordLength) l ∙ ap (λ (j : ℕ). drop j l) f))
-
-  pub turn : (first s t : Subject) (r : Record) (a : AddAnswer) (o : OutcomeAnswer) → k < count → Goes l count first s k →
-      r ≡ recordOfBytes (take (k * 11 + 11 - k * 11) (drop (k * 11) l)) → Added s r a t → Told t o → Goes l count first t (k + 1)
+  pub turn : (first s t : Subject) (r : Record) (a : AddAnswer) (o : OutcomeAnswer) → k < count → Goes l count first s k → r ≡ recordOfBytes (partAt l k) →
+      Added s r a t → Told t o → Goes l count first t (k + 1)
   turn first s t r a o h g re w q u c =
-      let e : k * 11 + 11 - k * 11 ≡ 11 = omega arith in
-      let same : r ≡ recordOfBytes (take recordLength (drop (k * recordLength) l)) = rw e at re in
-      g u (subst (λ (rs : List Record). Reached s rs u) (ap (λ (x : Record). x ∷ from l count (k + 1)) same ∙ sym (one-more h)) (one-turn w q c))
+      let next : from l count k ≡ r ∷ from l count (k + 1) =
+      ap (map recordOfBytes) (one-more l count k h) ∙ ap (λ (x : Record). x ∷ from l count (k + 1)) (sym re) in
+      g u (subst (λ (rs : List Record). Reached s rs u) (sym next) (one-turn w q c))
 
   -- behind the last record
   pub ended : (first s : Subject) → count ≤ k → Goes l count first s k → Reached first (from l count 1) s

@@ -31,7 +31,7 @@ fn print_listing(text: &[u8]) {
 }
 
 fn listing(bytes: &[u8]) {
-    let mut page = listing::blank_page();
+    let mut page = text::blank_page();
     let n = listing::list(bytes, &mut page);
     print_listing(&page[..n]);
 }

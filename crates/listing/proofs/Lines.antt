@@ -33,7 +33,7 @@ use Rattle.file.specs.declared.TakenRecord.{TakenRecord}
 use Rattle.file.specs.File.{refusalOfPart}
 use Rattle.file.specs.Taking.{refusalTaking, linesOnDay, Takes}
 use Rattle.file.proofs.Follows.{Taken, none-read, later-number}
-use Rattle.text.specs.Text.{visitText, linesText, linesOn}
+use Rattle.text.specs.Text.{visitText, linesText, linesInOrder}
 use Rattle.text.proofs.Lines.{AllShort, next-short}
 use Rattle.listing.specs.Writing.{AllWritable}
 
@@ -85,9 +85,9 @@ module _ {rs : List Record} {s : Subject} (t : Taken rs s) (part : List ℕ) (x 
       (next-short b p next (t .passes) (own-passed (t .entry .date) r (found-five part) (both-none .0))
       (one-more b p next (t .held .lawfully) .0 (both-none .1)) (day-small (t .entry .date) (r .entry) (r .marks) (r .sizes)))
 
-  pub lines-more : linesOn (onStudyDays (rs ++ (r ∷ []))) ≡ linesOn (onStudyDays rs) ++ visitValues (x .visit)
+  pub lines-more : linesInOrder (onStudyDays (rs ++ (r ∷ []))) ≡ linesInOrder (onStudyDays rs) ++ visitValues (x .visit)
   lines-more =
-      ap (λ (l : List Record). linesOn (onStudyDays (l ++ (r ∷ [])))) (t .opens)
+      ap (λ (l : List Record). linesInOrder (onStudyDays (l ++ (r ∷ [])))) (t .opens)
       ∙ ap (visitLines b) (past-one-more (t .entry) (t .marks) (t .sizes) (t .later) r)
       ∙ ap (λ (l : List VisitLine). visitLines b p ++ l) (sym shown)
-      ∙ ap (λ (l : List Record). linesOn (onStudyDays l) ++ visitValues (x .visit)) (sym (t .opens))
+      ∙ ap (λ (l : List Record). linesInOrder (onStudyDays l) ++ visitValues (x .visit)) (sym (t .opens))

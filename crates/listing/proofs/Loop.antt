@@ -27,8 +27,9 @@ use Rattle.parts.specs.Parts.{badLength, partsOf}
 use Rattle.file.specs.File.{refused, accepted, startsLate, verdictOf, fileValues, Judges}
 use Rattle.file.specs.Taking.{TakesFirst, Takes, verdictHeld, Ends}
 use Rattle.file.proofs.Verdicts.{apart, accepted-same}
-use Rattle.file.proofs.Loop.{from, partAt, Standing, bad, first-refused, first-standing, turn-refused, turn, ended}
-use Rattle.text.specs.Text.{linesText, linesOn}
+use Rattle.parts.proofs.Cut.{partAt}
+use Rattle.file.proofs.Loop.{from, Standing, bad, first-refused, first-standing, turn-refused, turn, ended}
+use Rattle.text.specs.Text.{linesText, linesInOrder}
 use Rattle.text.proofs.Texts.{lines-append}
 use Rattle.listing.specs.Writing.{Wrote, AllWritable, SmallIndex, mostLines, JudgesInto}
 use Rattle.listing.proofs.Writing.{then, nothing, as-text}
@@ -37,7 +38,7 @@ use Rattle.listing.proofs.Lines.{short-visit, shown-short, lines-more}
 -- the records before index k are taken, and their lines written
 pub record Printing (l page₀ page : List ℕ) (s : Subject) (at k : ℕ) : Type 0 where
   pub standing : Standing l s k
-  pub written : Wrote page₀ 0 (linesText (linesOn (onStudyDays (standing .before)))) at page
+  pub written : Wrote page₀ 0 (linesText (linesInOrder (onStudyDays (standing .before)))) at page
 
 -- of a refused file nothing is said of the text
 module _ (l page left : List ℕ) (a : FileAnswer) (m : ℕ) where
@@ -67,10 +68,10 @@ module _ (l page left : List ℕ) (a : FileAnswer) (m : ℕ) where
       Takes s (partAt l k) x → (x .number ≡ 0 → ⊥) → (fileValues a ≡ refused (x .number) k) × (m ≡ at) → JudgesInto l page a m left
   turn-into s at k w h b f x v z e =
       refused-into (x .number) k (turn-refused l s k (w .standing) h x v a z (e .0)) (e .0) (omega arith) (omega (arith, e .1))
-      (linesText (linesOn (onStudyDays (w .standing .before)))) (rw (e .1) (w .written))
+      (linesText (linesInOrder (onStudyDays (w .standing .before)))) (rw (e .1) (w .written))
 
 -- a first record prints no line
-alone : (d : Date) (e : Entry) (marks : List Bool) (sizes : List ℕ) → linesOn (entryOnStudyDay d e marks sizes ∷ []) ≡ []
+alone : (d : Date) (e : Entry) (marks : List Bool) (sizes : List ℕ) → linesInOrder (entryOnStudyDay d e marks sizes ∷ []) ≡ []
 alone d (E.Baseline b) marks sizes = refl
 alone d (E.Visit v) marks sizes = refl
 alone d (E.Therapy t) marks sizes = refl
@@ -96,7 +97,7 @@ module _ (l page₀ page : List ℕ) (s : Subject) (at k : ℕ) (w : Printing l 
         standing = turn l s k (w .standing) h x v z;
         written =
             as-text
-            (sym (lines-append (linesOn (onStudyDays (w .standing .before))) (visitValues (x .visit)))
+            (sym (lines-append (linesInOrder (onStudyDays (w .standing .before))) (visitValues (x .visit)))
             ∙ ap linesText (sym (lines-more (w .standing .taken) (partAt l k) x v z)))
             (then (w .written) u);
       }
@@ -142,7 +143,7 @@ module _ (l page₀ page : List ℕ) (s : Subject) (at k : ℕ) (w : Printing l 
         answer = judged .answer;
         index = small;
         within = m;
-        text = linesText (linesOn (onStudyDays (w .standing .before)));
+        text = linesText (linesInOrder (onStudyDays (w .standing .before)));
         written = w .written;
-        lines = λ o e. (told o e, ap (λ (rs : List Record). linesText (linesOn (onStudyDays rs))) every-record);
+        lines = λ o e. (told o e, ap (λ (rs : List Record). linesText (linesInOrder (onStudyDays rs))) every-record);
       }

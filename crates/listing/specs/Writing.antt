@@ -15,7 +15,7 @@ use Rattle.outcome.specs.Laws.{TellsWithin}
 use Rattle.file.specs.declared.FileAnswer.{FileAnswer}
 use Rattle.parts.specs.Parts.{partsOf}
 use Rattle.file.specs.File.{Verdict, refused, accepted, verdictOf, fileValues}
-use Rattle.text.specs.Text.{firstLetter, secondLetter, linesText, linesOn, listingOf, pageOf}
+use Rattle.text.specs.Text.{firstLetter, secondLetter, linesText, linesInOrder, listingOf, pageOf}
 
 -- a text was written into the page from a place on, which led to the place behind it; every other byte is as it was
 pub record Wrote (page : List ℕ) (at : ℕ) (text : List ℕ) (next : ℕ) (left : List ℕ) : Type 0 where
@@ -50,7 +50,7 @@ pub record JudgesInto (s page : List ℕ) (a : FileAnswer) (n : ℕ) (left : Lis
   pub within : n ≤ mostLines
   pub text : List ℕ
   pub written : Wrote page 0 text n left
-  pub lines : (o : Outcome) → verdictOf s ≡ accepted o → TellsWithin (outcome o) × (text ≡ linesText (linesOn (onStudyDays (map recordOfBytes (partsOf s)))))
+  pub lines : (o : Outcome) → verdictOf s ≡ accepted o → TellsWithin (outcome o) × (text ≡ linesText (linesInOrder (onStudyDays (map recordOfBytes (partsOf s)))))
 
 -- the promise of listing: how many bytes, and the whole page
 pub record Lists (s page : List ℕ) (n : ℕ) (left : List ℕ) : Type 0 where

@@ -2,9 +2,10 @@
 use codec::RECORD_LENGTH;
 use file::FileAnswer;
 use file::FileRefusal;
+use text::PAGE_LENGTH;
 ghost use mathlib.Core.Path.{_≡_};
 ghost use Prim.Native.Nat.{_≤_};
-ghost use lib.ListN.{length, take, drop, replicate};
+ghost use lib.ListN.{length, take, drop};
 ghost use mathlib.Core.List.{_++_};
 ghost use Rattle.file.specs.File.{fileValues, refused};
 ghost use Rattle.text.specs.Text.{longestListing};
@@ -14,17 +15,6 @@ mod bytes; // bytes.rt: bytes and numbers into a page
 mod words; // words.rt: the words of answers into a page
 mod visits; // visits.rt: the line of a visit
 mod outcomes; // outcomes.rt: the lines of the outcome, and the line of a refusal
-
-// The longest listing there can be has this many bytes.
-pub const PAGE_LENGTH: usize = 96023;
-
-// A page of zeros to lend. Its length stands in a promise of its own, which lending it as a slice needs.
-pub fn blank_page() -> [u8; PAGE_LENGTH]
-    ensures { λ r. ⌜ r ≡ replicate longestListing 0 ⌝ }
-    ensures { λ r. ⌜ longestListing ≡ length r ⌝ }
-{
-    [0; PAGE_LENGTH]
-}
 
 // A file judged, and how many bytes the lines written so far take.
 struct JudgedLines {

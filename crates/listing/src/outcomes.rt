@@ -22,13 +22,13 @@ ghost use Rattle.endpoints.specs.Values.{pfsValues, bestWord, durationValues, w
 ghost use Rattle.outcome.specs.Promises.{outcome as Promises·outcome, outcomeValues};
 ghost use Rattle.outcome.specs.Laws.{DurationWithin, TellsWithin};
 ghost use Rattle.text.specs.Numerals.{decimal};
-ghost use Rattle.text.specs.Text.{statusText, lineOf, pfsText, bestText, durationText, settledText, outcomeText, refusalText};
+ghost use Rattle.text.specs.Text.{statusText, lineOfFields, pfsText, bestText, durationText, settledText, outcomeText, refusalText};
 ghost use Rattle.listing.specs.Writing.{Wrote};
 
 // A status and a number, of days or of a day, behind the letter of the line.
 fn put_status_line(page: &mut [u8], at: usize, letter: u8, status: PfsStatus, n: u32) -> usize
     requires { ⌜ (n < 100000) × (at + 17 ≤ length (now page)) ⌝ }
-    ensures { λ r. ⌜ (Wrote (now (page .entry)) at (lineOf ((letter ∷ []) ∷ statusText (wordOfStatus status) ∷ decimal n ∷ [])) r (now (page .exit))) × (r ≤ at + 17) ⌝ }
+    ensures { λ r. ⌜ (Wrote (now (page .entry)) at (lineOfFields ((letter ∷ []) ∷ statusText (wordOfStatus status) ∷ decimal n ∷ [])) r (now (page .exit))) × (r ≤ at + 17) ⌝ }
 {
     let word = put_two(page, at, letter, b' ');
     let space = put_status(page, word, status);

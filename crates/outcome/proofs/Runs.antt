@@ -5,10 +5,12 @@ use mathlib.Core.Bool.{Bool, true, false, not}
 use mathlib.Core.List.{List, [], _∷_}
 use lib.Dec.{eqb}
 use Rattle.laws.specs.Choice.{pick}
+use Rattle.laws.proofs.Cases.{Some, pick-some}
 use Rattle.records.specs.declared.Record.{Record}
 use Rattle.dates.specs.Calendar.{dateExists}
 use Rattle.records.specs.Form.{dateOf, kindNumber, Five}
-use Rattle.records.specs.Refusals.{outsideLimits, notZero, firstOwn, refusalOfRead, refusalOf}
+use Rattle.records.specs.Refusals.{outsideLimits, notZero, refusalOfRead, refusalOf}
+use Rattle.records.proofs.Passed.{some-own}
 use Rattle.endpoints.specs.declared.PfsStatus.the-variants as P
 use Rattle.endpoints.specs.declared.BestResponse.the-variants as B
 use Rattle.endpoints.specs.declared.DurationAnswer.the-variants as D
@@ -28,36 +30,16 @@ use Rattle.outcome.specs.declared.OutcomeAnswer.the-variants as R
 use Rattle.outcome.specs.Promises.{refusalOnDay, refusalHeld, nextSubject, pfsHeld, durationHeld, outcomeOf, readingOf, Told}
 use Rattle.outcome.specs.Demand3.{none, adds, reads, Runs}
 
--- some case of a declared answer has the value
-abbrev pub Some : {A W : Type 0} → (A → W) → W → Type 0
-Some {A} value v = (a : A) × (value a ≡ v)
-
-pub pick-some : {A W : Type 0} (value : A → W) (x : Bool) (v w : W) → Some value v → Some value w → Some value (pick x v w)
-pick-some value true v w a b = a
-pick-some value false v w a b = b
-
-some-own : (noDate outside set : Bool) → Some addNumber (firstOwn noDate outside set)
-some-own true outside set = (A.NoSuchDate, refl)
-some-own false true set = (A.OutsideLimits, refl)
-some-own false false true = (A.NotZero, refl)
-some-own false false false = (A.Done, refl)
-
 some-kind : (baseline : Bool) → Some openNumber (pick baseline 0 7)
 some-kind true = (N.Done, refl)
 some-kind false = (N.NotBaseline, refl)
-
-some-own-opening : (noDate outside set : Bool) → Some openNumber (firstOwn noDate outside set)
-some-own-opening true outside set = (N.NoSuchDate, refl)
-some-own-opening false true set = (N.OutsideLimits, refl)
-some-own-opening false false true = (N.NotZero, refl)
-some-own-opening false false false = (N.Done, refl)
 
 pub opens : (b : Record) → Five b → (a : OpenAnswer) × (s : Subject) × Opened b a s
 unfolding refusalOfOpening refusalOfRead
 opens b five =
     let answer = pick-some openNumber (eqb (refusalOf b) 0) (notBaseline (b .entry)) (refusalOf b)
     (some-kind (eqb (kindNumber (b .entry)) 1))
-    (some-own-opening (not (dateExists (dateOf (b .entry)))) (outsideLimits (b .entry) (b .marks) (b .sizes)) (notZero (b .entry) (b .marks) (b .sizes))) in
+    (some-own openNumber (N.NoSuchDate, refl) (N.OutsideLimits, refl) (N.NotZero, refl) (N.Done, refl) (not (dateExists (dateOf (b .entry)))) (outsideLimits (b .entry) (b .marks) (b .sizes)) (notZero (b .entry) (b .marks) (b .sizes))) in
     (answer .0, openedSubject b, record { answer = answer .1; made = refl; five = five })
 
 some-placing : (second dead early misfit : Bool) → Some addNumber (pick second 8 (pick dead 9 (pick early 10 (pick misfit 11 0))))
@@ -73,7 +55,7 @@ some-refusal s r =
     pick-some addNumber (inRange s) (afterOwn r (refusalOnDay s r)) 12
     (pick-some addNumber (eqb (refusalOf r) 0) (refusalOnDay s r) (refusalOf r)
     (some-placing (eqb (kindNumber (r .entry)) 1) (isRecorded (dayValue (s .death))) (earlyOn s (dayOn s r) (r .entry)) (misfitOn s (r .entry) (r .marks)))
-    (some-own (not (dateExists (dateOf (r .entry)))) (outsideLimits (r .entry) (r .marks) (r .sizes)) (notZero (r .entry) (r .marks) (r .sizes))))
+    (some-own addNumber (A.NoSuchDate, refl) (A.OutsideLimits, refl) (A.NotZero, refl) (A.Done, refl) (not (dateExists (dateOf (r .entry)))) (outsideLimits (r .entry) (r .marks) (r .sizes)) (notZero (r .entry) (r .marks) (r .sizes))))
     (A.OutOfRange, refl)
 
 some-status : (w : PfsWord) → Some wordOfStatus w

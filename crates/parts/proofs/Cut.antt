@@ -3,15 +3,30 @@
 use mathlib.Core.Path.{_≡_, refl, _∙_, ap}
 use mathlib.Core.Bool.{false, not}
 use mathlib.Core.List.{List, [], _∷_, _++_}
-use Prim.Native.Nat.{ℕ, zero, suc, _-_, _*_, _/_, _%_, _≤_}
+use Prim.Native.Nat.{ℕ, zero, suc, _+_, _-_, _*_, _/_, _%_, _≤_, _<_}
 use native.Mathlib.Omega.{arith}
 use lib.Dec.{eqb}
 use borrow.Author.Tests.{eqb-true, eqb-false, ltb-false, not-false}
 use lib.ListN.{length, take, drop, take-append-drop, length-drop}
-use lib.Seq.{length-take-le}
+use lib.Seq.{length-take-le, drop-drop}
 use Rattle.laws.proofs.Tests.{either-false}
 use Rattle.codec.specs.Bytes.{recordLength}
 use Rattle.parts.specs.Parts.{mostBytes, badLength, parts, joined, AllEleven, LengthsAtTheEdges, Cuts}
+
+-- the bytes of part k, as a part of a slice has them, and the parts from k on, of count in all
+abbrev pub partAt : List ℕ → ℕ → List ℕ
+partAt l k = take (k * 11 + 11 - k * 11) (drop (k * 11) l)
+
+abbrev pub partsFrom : List ℕ → ℕ → ℕ → List (List ℕ)
+partsFrom l count k = parts (count - k) (drop (k * recordLength) l)
+
+pub one-more : (l : List ℕ) (count k : ℕ) → k < count → partsFrom l count k ≡ partAt l k ∷ partsFrom l count (k + 1)
+one-more l count k h =
+    let e : count - k ≡ suc (count - (k + 1)) = omega arith in
+    let f : k * 11 + 11 ≡ (k + 1) * 11 = omega arith in
+    let g : k * 11 + 11 - k * 11 ≡ 11 = omega arith in
+    rw (e, g)
+    (ap (λ (m : List ℕ). take 11 (drop (k * 11) l) ∷ parts (count - (k + 1)) m) (drop-drop 11 (k * 11) l ∙ ap (λ (j : ℕ). drop j l) f))
 
 pub lengths-at-the-edges : LengthsAtTheEdges
 unfolding badLength

@@ -65,7 +65,7 @@ pub enum MaybeVisit {
     Judged(JudgedVisit),
 }
 
-// The visit is absent beside a refusal and where the record is none.
+// The visit is absent beside a refusal and where the record is no visit.
 pub struct PlaceResult {
     pub added: AddResult,
     pub visit: MaybeVisit,

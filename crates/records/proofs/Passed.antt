@@ -11,6 +11,7 @@ use borrow.Author.Tests.{ltb-false, le-leb, not-false}
 use Rattle.laws.specs.Choice.{both, either, pick}
 use Rattle.laws.proofs.Tests.{either-false}
 use Rattle.laws.proofs.Some.{some-none}
+use Rattle.laws.proofs.Cases.{Some, pick-some}
 use Rattle.dates.specs.Calendar.{dateExists}
 use Rattle.records.specs.Form.{dateOf}
 use Rattle.records.specs.Refusals.{mostTargets, largestSize, leastSize, wrongSize, largeMeasured, setBeyond, sizedUnmeasured, targetAt, someTarget, withoutDisease, outsideLimits, notZero, firstOwn, refusalOfRead}
@@ -19,12 +20,17 @@ use Rattle.records.specs.declared.BaselineEntry.{BaselineEntry}
 use Rattle.records.specs.declared.Entry.{Entry}
 use Rattle.records.specs.declared.Entry.the-variants.{Baseline, Visit, Therapy, Death}
 
-pub record Passes (r : Record) (unlawful spare : Bool) : Type 0 where
+pub record Passes (r : Record) (badstatus spare : Bool) : Type 0 where
   pub date : dateExists (dateOf (r .entry)) ≡ true
-  pub lawful : unlawful ≡ false
+  pub lawful : badstatus ≡ false
   pub limits : outsideLimits (r .entry) (r .marks) (r .sizes) ≡ false
   pub clear : spare ≡ false
   pub zeros : notZero (r .entry) (r .marks) (r .sizes) ≡ false
+
+-- each number that refuses a record by itself, and 0, is that of some case of an answer that has a case for each
+pub some-own : {A : Type 0} (number : A → ℕ) → Some number 3 → Some number 4 → Some number 5 → Some number 0 → (noDate outside set : Bool) →
+    Some number (firstOwn noDate outside set)
+some-own number three four five none noDate outside set = pick-some number noDate 3 _ three (pick-some number outside 4 _ four (pick-some number set 5 0 five none))
 
 none-meets : (a b c : Bool) → firstOwn a b c ≡ 0 → (a ≡ false) × (b ≡ false) × (c ≡ false)
 none-meets true b c e = absurd (let w : ⊥ = omega arith in w)
@@ -32,18 +38,18 @@ none-meets false true c e = absurd (let w : ⊥ = omega arith in w)
 none-meets false false true e = absurd (let w : ⊥ = omega arith in w)
 none-meets false false false e = (refl, refl, refl)
 
-pub passes : (r : Record) (unlawful spare : Bool) → refusalOfRead r unlawful spare ≡ 0 → Passes r unlawful spare
+pub passes : (r : Record) (badstatus spare : Bool) → refusalOfRead r badstatus spare ≡ 0 → Passes r badstatus spare
 unfolding refusalOfRead
-passes r unlawful spare e =
+passes r badstatus spare e =
     let t = none-meets (not (dateExists (dateOf (r .entry)))) _ _ e in
-    let l = either-false unlawful _ (t .1) in
+    let l = either-false badstatus _ (t .1) in
     let z = either-false spare _ (t .2) in
     record { date = not-false _ (t .0); lawful = l .0; limits = l .1; clear = z .0; zeros = z .1 }
 
 -- conversely
-pub no-refusal : (r : Record) (unlawful spare : Bool) → Passes r unlawful spare → refusalOfRead r unlawful spare ≡ 0
+pub no-refusal : (r : Record) (badstatus spare : Bool) → Passes r badstatus spare → refusalOfRead r badstatus spare ≡ 0
 unfolding refusalOfRead
-no-refusal r unlawful spare p = rw (p .date, p .lawful, p .limits, p .clear, p .zeros)
+no-refusal r badstatus spare p = rw (p .date, p .lawful, p .limits, p .clear, p .zeros)
 
 -- a target beyond a count of 0 is clear
 pub clear-target : (k : ℕ) (mark : Bool) (size : ℕ) → setBeyond 0 k mark size ≡ false → (mark ≡ false) × (size ≡ 0)

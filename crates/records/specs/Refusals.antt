@@ -85,8 +85,8 @@ firstOwn noDate outside set = pick noDate 3 (pick outside 4 (pick set 5 0))
 
 -- what was read as a record, with a status that is none (4) or a spare bit that is set (5) beside it
 unfoldable pub refusalOfRead : Record → Bool → Bool → ℕ
-refusalOfRead r unlawful spare =
-    firstOwn (not (dateExists (dateOf (r .entry)))) (either unlawful (outsideLimits (r .entry) (r .marks) (r .sizes)))
+refusalOfRead r badstatus spare =
+    firstOwn (not (dateExists (dateOf (r .entry)))) (either badstatus (outsideLimits (r .entry) (r .marks) (r .sizes)))
     (either spare (notZero (r .entry) (r .marks) (r .sizes)))
 
 -- a record value has neither

@@ -114,10 +114,10 @@ fn first_of(outside: bool, set: bool) -> CheckAnswer
 
 // Refusals 4 and 5 of a visit. One test passes most visits: a target that is too large for its mark breaks 4 where it is measured, and
 // 5 where it is not.
-pub fn check_visit(unlawful: bool, marks: [bool; 5], sizes: [u16; 5], spare: bool) -> CheckAnswer
-    ensures { λ c. ⌜ ((v : VisitEntry) → checkNumber c ≡ firstOwn false (either unlawful (outsideLimits (Visit v) marks sizes)) (either spare (notZero (Visit v) marks sizes))) ⌝ }
+pub fn check_visit(badstatus: bool, marks: [bool; 5], sizes: [u16; 5], spare: bool) -> CheckAnswer
+    ensures { λ c. ⌜ ((v : VisitEntry) → checkNumber c ≡ firstOwn false (either badstatus (outsideLimits (Visit v) marks sizes)) (either spare (notZero (Visit v) marks sizes))) ⌝ }
 {
-    if unlawful {
+    if badstatus {
         return CheckAnswer::OutsideLimits;
     }
     if targets::some_beyond_mark(marks, sizes) {
@@ -145,8 +145,8 @@ fn check_fields(entry: Entry, marks: [bool; 5], sizes: [u16; 5], spare: bool) ->
 
 // The record's own refusals in the order of their numbers. What was read beside the record goes with them: a status that is none
 // is outside its limits, and a spare bit that is set is not zero.
-pub fn check_read(r: Record, unlawful: bool, spare: bool) -> CheckAnswer
-    ensures { λ c. ⌜ checkNumber c ≡ refusalOfRead r unlawful spare ⌝ }
+pub fn check_read(r: Record, badstatus: bool, spare: bool) -> CheckAnswer
+    ensures { λ c. ⌜ checkNumber c ≡ refusalOfRead r badstatus spare ⌝ }
 {
     let entry = r.entry;
     let marks = r.marks;
@@ -154,7 +154,7 @@ pub fn check_read(r: Record, unlawful: bool, spare: bool) -> CheckAnswer
     if !dates::date_exists(date_of(entry)) {
         return CheckAnswer::NoSuchDate;
     }
-    if unlawful {
+    if badstatus {
         return CheckAnswer::OutsideLimits;
     }
     check_fields(entry, marks, sizes, spare)

@@ -26,11 +26,11 @@ either-small : (x : Bool) (m n : ℕ) → Small m → Small n → Small (pick x 
 either-small true m n a b = a
 either-small false m n a b = b
 
-own-small : (r : Record) (unlawful spare : Bool) → Small (refusalOfRead r unlawful spare)
+own-small : (r : Record) (badstatus spare : Bool) → Small (refusalOfRead r badstatus spare)
 unfolding refusalOfRead
-own-small r unlawful spare =
+own-small r badstatus spare =
     either-small (not (dateExists (dateOf (r .entry)))) 3 _ (omega arith)
-    (either-small (either unlawful (outsideLimits (r .entry) (r .marks) (r .sizes))) 4 _ (omega arith)
+    (either-small (either badstatus (outsideLimits (r .entry) (r .marks) (r .sizes))) 4 _ (omega arith)
     (either-small (either spare (notZero (r .entry) (r .marks) (r .sizes))) 5 0 (omega arith) (omega arith)))
 
 after-own-small : (r : Record) (n : ℕ) → Small n → Small (afterOwn r n)
@@ -66,7 +66,7 @@ bytes-small s =
     let n = bytesNumber s in
     let w = rawIn (kindIn n) n in
     either-small (not (eqb (length s) recordLength)) 1 _ (omega arith)
-    (either-small (not (both (leb 1 (kindIn n)) (leb (kindIn n) 4))) 2 _ (omega arith) (own-small (w .read) (w .unlawful) (w .spare)))
+    (either-small (not (both (leb 1 (kindIn n)) (leb (kindIn n) 4))) 2 _ (omega arith) (own-small (w .read) (w .badstatus) (w .spare)))
 
 pub part-small : (rs : List Record) (part : List ℕ) → Small (refusalOfPart rs part)
 part-small [] part = either-small (eqb (refusalOfBytes part) 0) _ _ (opening-small (recordOfBytes part)) (bytes-small part)

@@ -51,59 +51,59 @@ abbrev pub changeText : Tenths → List ℕ
 changeText t = pick (t .known) (pick (t .negative) (45 ∷ tenthsText (t .tenths)) (tenthsText (t .tenths))) (45 ∷ [])
 
 -- fields stand one space apart, and each line ends in a newline
-abbrev pub lineOf : List (List ℕ) → List ℕ
-lineOf [] = 10 ∷ []
-lineOf (f ∷ []) = f ++ (10 ∷ [])
-lineOf (f ∷ (g ∷ fs)) = f ++ (32 ∷ lineOf (g ∷ fs))
+abbrev pub lineOfFields : List (List ℕ) → List ℕ
+lineOfFields [] = 10 ∷ []
+lineOfFields (f ∷ []) = f ++ (10 ∷ [])
+lineOfFields (f ∷ (g ∷ fs)) = f ++ (32 ∷ lineOfFields (g ∷ fs))
 
 -- V: study day, target, non-target, overall, change
 unfoldable pub visitText : VisitLine → List ℕ
 visitText l =
-    lineOf ((86 ∷ []) ∷ decimal (l .day) ∷ wordText (l .target) ∷ wordText (l .nontarget) ∷ wordText (l .overall) ∷ changeText (l .change) ∷ [])
+    lineOfFields ((86 ∷ []) ∷ decimal (l .day) ∷ wordText (l .target) ∷ wordText (l .nontarget) ∷ wordText (l .overall) ∷ changeText (l .change) ∷ [])
 
 -- P: EVENT or CENSORED, day
 unfoldable pub pfsText : Pfs → List ℕ
-pfsText p = lineOf ((80 ∷ []) ∷ statusText (p .status) ∷ decimal (p .day) ∷ [])
+pfsText p = lineOfFields ((80 ∷ []) ∷ statusText (p .status) ∷ decimal (p .day) ∷ [])
 
 -- B: best
 unfoldable pub bestText : Word → List ℕ
-bestText w = lineOf ((66 ∷ []) ∷ wordText w ∷ [])
+bestText w = lineOfFields ((66 ∷ []) ∷ wordText w ∷ [])
 
 -- D: status and days, or `none`
 unfoldable pub durationText : Duration → List ℕ
-durationText noDuration = lineOf ((68 ∷ []) ∷ (110 ∷ 111 ∷ 110 ∷ 101 ∷ []) ∷ [])
-durationText (forDays status days) = lineOf ((68 ∷ []) ∷ statusText status ∷ decimal days ∷ [])
+durationText noDuration = lineOfFields ((68 ∷ []) ∷ (110 ∷ 111 ∷ 110 ∷ 101 ∷ []) ∷ [])
+durationText (forDays status days) = lineOfFields ((68 ∷ []) ∷ statusText status ∷ decimal days ∷ [])
 
 abbrev pub markText : Bool → List ℕ
 markText mark = pick mark 49 48 ∷ []
 
 -- S: settled marks of PFS, best, duration
 unfoldable pub settledText : Bool → Bool → Bool → List ℕ
-settledText pfs best duration = lineOf ((83 ∷ []) ∷ markText pfs ∷ markText best ∷ markText duration ∷ [])
+settledText pfs best duration = lineOfFields ((83 ∷ []) ∷ markText pfs ∷ markText best ∷ markText duration ∷ [])
 
 unfoldable pub outcomeText : Outcome → List ℕ
 outcomeText o = pfsText (o .pfs) ++ (bestText (o .best) ++ (durationText (o .duration) ++ settledText (o .pfsSettled) (o .bestSettled) (o .durationSettled)))
 
 -- R, number, record index from 0
 unfoldable pub refusalText : ℕ → ℕ → List ℕ
-refusalText number index = lineOf ((82 ∷ []) ∷ decimal number ∷ decimal index ∷ [])
+refusalText number index = lineOfFields ((82 ∷ []) ∷ decimal number ∷ decimal index ∷ [])
 
 abbrev pub linesText : List VisitLine → List ℕ
 linesText [] = []
 linesText (l ∷ ls) = visitText l ++ linesText ls
 
 -- the lines of the visits of accepted records in the order recorded, baseline first
-abbrev pub linesOn : List StudyRecord → List VisitLine
-linesOn [] = []
-linesOn (baseline b ∷ rs) = visitLines b (reverse rs)
-linesOn (visit d v ∷ rs) = []
-linesOn (therapy d ∷ rs) = []
-linesOn (death d ∷ rs) = []
+abbrev pub linesInOrder : List StudyRecord → List VisitLine
+linesInOrder [] = []
+linesInOrder (baseline b ∷ rs) = visitLines b (reverse rs)
+linesInOrder (visit d v ∷ rs) = []
+linesInOrder (therapy d ∷ rs) = []
+linesInOrder (death d ∷ rs) = []
 
 -- a refused file prints only R
 abbrev pub listingText : Verdict → List StudyRecord → List ℕ
 listingText (refused number index) rs = refusalText number index
-listingText (accepted o) rs = linesText (linesOn rs) ++ outcomeText o
+listingText (accepted o) rs = linesText (linesInOrder rs) ++ outcomeText o
 
 unfoldable pub listingOf : List ℕ → List ℕ
 listingOf s = listingText (verdictOf s) (onStudyDays (map recordOfBytes (partsOf s)))
