@@ -1,5 +1,6 @@
 pub mod Writing
 pub mod Numerals
+pub mod Numbers
 pub mod Bounds
 pub mod Lines
 pub mod Loop

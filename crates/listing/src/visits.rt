@@ -1,10 +1,12 @@
 // The line of a visit.
 use super::bytes::digit;
 use super::bytes::put_decimal;
+use super::bytes::put_eight_of;
+use super::bytes::put_four_of;
 use super::bytes::put_one;
+use super::bytes::put_three;
 use super::bytes::put_two;
 use super::words::overall_letters;
-use super::words::put_word;
 use super::words::status_letters;
 use super::words::target_letters;
 use criteria::ChangeAnswer;
@@ -13,47 +15,97 @@ use criteria::Target;
 use placing::JudgedVisit;
 use placing::MaybeVisit;
 use records::Status;
+ghost use mathlib.Core.Path.{_≡_};
 ghost use mathlib.Core.List.{[], _∷_, _++_};
-ghost use Prim.Native.Nat.{_+_, _≤_, _<_};
+ghost use Prim.Native.Nat.{_+_, _*_, _/_, _%_, _≤_, _<_};
 ghost use lib.ListN.{length};
 ghost use Rattle.criteria.specs.Words.{targetWord, statusWord, overallWord};
 ghost use Rattle.criteria.specs.Change.{changeValues};
 ghost use Rattle.placing.specs.Lines.{judgedValues, visitValues};
 ghost use Rattle.text.specs.Numerals.{decimal};
 ghost use Rattle.text.specs.Text.{wordText, tenthsText, changeText, visitText, linesText};
-ghost use Rattle.listing.specs.Writing.{Wrote, AllWritable, Writable};
+ghost use Rattle.listing.specs.Writing.{Wrote, fourBytes, eightBytes, AllWritable, Writable};
 
-fn put_tenths(page: &mut [u8], at: usize, n: u64) -> usize
-    requires { ⌜ (n < 100000) × (at + 7 ≤ length (now page)) ⌝ }
-    ensures { λ r. ⌜ (Wrote (now (page .entry)) at (tenthsText n) r (now (page .exit))) × (r ≤ at + 7) ⌝ }
+// Below ten percent: a digit, the point, a digit and the newline as one number.
+fn short_tenths(n: u32) -> u32
+    requires { ⌜ n < 100 ⌝ }
+    ensures { λ r. ⌜ fourBytes r ≡ tenthsText n ++ (10 ∷ []) ⌝ }
 {
-    let whole = (n / 10) as u32;
-    let tenth = digit((n % 10) as u32);
-    let point = put_decimal(page, at, whole);
-    put_two(page, point, b'.', tenth)
+    n * 65536 + 0x0A302E30 - n / 10 * (10 * 65536 - 1)
 }
 
-fn put_change(page: &mut [u8], at: usize, change: ChangeAnswer) -> usize
-    requires { ⌜ (changeValues change .tenths < 100000) × (at + 8 ≤ length (now page)) ⌝ }
-    ensures { λ r. ⌜ (Wrote (now (page .entry)) at (changeText (changeValues change)) r (now (page .exit))) × (r ≤ at + 8) ⌝ }
+// Tenths of a percent and the newline.
+fn put_tenths(page: &mut [u8], at: usize, n: u32) -> usize
+    requires { ⌜ (n < 100000) × (at + 8 ≤ length (now page)) ⌝ }
+    ensures { λ r. ⌜ (Wrote (now (page .entry)) at (tenthsText n ++ (10 ∷ [])) r (now (page .exit))) × (r ≤ at + 8) ⌝ }
+{
+    if n < 100 {
+        return put_four_of(page, at, short_tenths(n));
+    }
+    let whole = n / 10;
+    let point = put_decimal(page, at, whole);
+    put_three(page, point, b'.', digit(n - whole * 10), b'\n')
+}
+
+// The change and the newline.
+fn put_end(page: &mut [u8], at: usize, change: ChangeAnswer) -> usize
+    requires { ⌜ (changeValues change .tenths < 100000) × (at + 10 ≤ length (now page)) ⌝ }
+    ensures { λ r. ⌜ (Wrote (now (page .entry)) at (32 ∷ (changeText (changeValues change) ++ (10 ∷ []))) r (now (page .exit))) × (r ≤ at + 10) ⌝ }
 {
     match change {
-        ChangeAnswer::Absent => put_one(page, at, b'-'),
-        ChangeAnswer::Increase(n) => put_tenths(page, at, n),
+        ChangeAnswer::Absent => put_three(page, at, b' ', b'-', b'\n'),
+        ChangeAnswer::Increase(n) => {
+            let next = put_one(page, at, b' ');
+            put_tenths(page, next, n as u32)
+        }
         ChangeAnswer::Decrease(n) => {
-            let next = put_one(page, at, b'-');
-            put_tenths(page, next, n)
+            let next = put_two(page, at, b' ', b'-');
+            put_tenths(page, next, n as u32)
         }
     }
 }
 
-// The letter and the study day.
-fn put_start(page: &mut [u8], at: usize, day: u32) -> usize
-    requires { ⌜ (day < 100000) × (at + 7 ≤ length (now page)) ⌝ }
-    ensures { λ r. ⌜ (Wrote (now (page .entry)) at (86 ∷ 32 ∷ decimal day) r (now (page .exit))) × (r ≤ at + 7) ⌝ }
+// The letter, a day of five digits and a space as one number. A digit is a quotient less ten times the one before it, so that the digits,
+// each 256 times as high as the one before it, are the day at the last place less 2,559 times the quotients at theirs.
+fn start_number(day: u32) -> u64
+    requires { ⌜ (10000 ≤ day) × (day < 100000) ⌝ }
+    ensures { λ r. ⌜ eightBytes r ≡ 86 ∷ 32 ∷ (decimal day ++ (32 ∷ [])) ⌝ }
 {
+    let upper = (day / 10000) as u64
+        + (day / 1000) as u64 * 256
+        + (day / 100) as u64 * 65536
+        + (day / 10) as u64 * 16777216;
+    (day as u64 * 4294967296 - upper * 2559) * 65536 + 0x2030303030302056
+}
+
+// The letter and the study day, with a space behind it.
+fn put_start(page: &mut [u8], at: usize, day: u32) -> usize
+    requires { ⌜ (day < 100000) × (at + 8 ≤ length (now page)) ⌝ }
+    ensures { λ r. ⌜ (Wrote (now (page .entry)) at (86 ∷ 32 ∷ (decimal day ++ (32 ∷ []))) r (now (page .exit))) × (r ≤ at + 8) ⌝ }
+{
+    if 10000 <= day {
+        return put_eight_of(page, at, start_number(day));
+    }
     let next = put_two(page, at, b'V', b' ');
-    put_decimal(page, next, day)
+    let end = put_decimal(page, next, day);
+    put_one(page, end, b' ')
+}
+
+// The first letter in the lowest place.
+fn first_lowest(pair: u16) -> u64
+    ensures { λ r. ⌜ (r ≡ pair / 256 + pair % 256 * 256) × (r < 65536) ⌝ }
+{
+    pair as u64 / 256 + pair as u64 % 256 * 256
+}
+
+// The letters of the three words and the spaces between them as one number.
+fn answers_number(target: Target, status: Status, overall: Overall) -> u64
+    ensures { λ r. ⌜ eightBytes r ≡ wordText (targetWord target) ++ (32 ∷ (wordText (statusWord status) ++ (32 ∷ wordText (overallWord overall)))) ⌝ }
+{
+    let first = first_lowest(target_letters(target));
+    let second = first_lowest(status_letters(status));
+    let third = first_lowest(overall_letters(overall));
+    first + second * 16777216 + third * 281474976710656 + 0x0000200000200000
 }
 
 fn put_answers(
@@ -63,22 +115,10 @@ fn put_answers(
     status: Status,
     overall: Overall,
 ) -> usize
-    requires { ⌜ at + 9 ≤ length (now page) ⌝ }
-    ensures { λ r. ⌜ Wrote (now (page .entry)) at ((32 ∷ wordText (targetWord target)) ++ ((32 ∷ wordText (statusWord status)) ++ (32 ∷ wordText (overallWord overall)))) r (now (page .exit)) ⌝ }
+    requires { ⌜ at + 8 ≤ length (now page) ⌝ }
+    ensures { λ r. ⌜ Wrote (now (page .entry)) at (wordText (targetWord target) ++ (32 ∷ (wordText (statusWord status) ++ (32 ∷ wordText (overallWord overall))))) r (now (page .exit)) ⌝ }
 {
-    let second = put_word(page, at, target_letters(target));
-    let third = put_word(page, second, status_letters(status));
-    put_word(page, third, overall_letters(overall))
-}
-
-// The change and the newline.
-fn put_end(page: &mut [u8], at: usize, change: ChangeAnswer) -> usize
-    requires { ⌜ (changeValues change .tenths < 100000) × (at + 10 ≤ length (now page)) ⌝ }
-    ensures { λ r. ⌜ (Wrote (now (page .entry)) at (32 ∷ (changeText (changeValues change) ++ (10 ∷ []))) r (now (page .exit))) × (r ≤ at + 10) ⌝ }
-{
-    let next = put_one(page, at, b' ');
-    let last = put_change(page, next, change);
-    put_one(page, last, b'\n')
+    put_eight_of(page, at, answers_number(target, status, overall))
 }
 
 fn put_visit(page: &mut [u8], at: usize, visit: JudgedVisit) -> usize

@@ -1,6 +1,8 @@
 -- `listing::visits::put_end` meets its contract.
 -- Assumes nothing.
 use borrow.Author.Needs.{needs}
+use Rattle.listing.proofs.Bounds.{increase-small, decrease-small}
+use Rattle.listing.proofs.Numbers.{below-32}
 use Rattle.listing.proofs.Writing.{then}
 use Rattle.listing.proofs.visits.put_end.Statement.{statement}
 use Rattle.listing.proofs.visits.put_end.Tie as tie
@@ -9,8 +11,19 @@ pub put-end-spec : {M : Type 1} → statement M
 put-end-spec =
     tie.close
     (tie.spec
-    (λ c κs. search needs)
-    (λ c κs. search needs)
+    (λ c. search needs)
     (λ c κs. search needs)
     (λ c. search needs)
-    (λ c. (then (c .before .before .before .before .before .before .before .before .before .before .put-one .ensures) (then (c .before .before .before .before .before .before .put-change .ensures .0) (c .before .before .put-one2 .ensures)), search needs)))
+    (λ c κs. search needs)
+    (λ c. record { fits = below-32 (search increase-small) })
+    (λ c κs. (search increase-small, search needs))
+    (λ c. search needs)
+    (λ c κs. search needs)
+    (λ c. record { fits = below-32 (search decrease-small) })
+    (λ c κs. (search decrease-small, search needs))
+    (λ c. search needs)
+    (λ c. rw (c .before .before .before .before .enum-told .given .1) ((c .before .before .put-three .ensures), search needs))
+    (λ c. search needs)
+    (λ c. rw (c .before .before .before .before .before .before .before .before .before .change .given .1) (then (c .before .before .before .before .before .before .put-one .ensures) (c .before .before .put-tenths .ensures .0), search needs))
+    (λ c. search needs)
+    (λ c. rw (c .before .before .before .before .before .before .before .before .before .change2 .given .1) (then (c .before .before .before .before .before .before .put-two .ensures) (c .before .before .put-tenths2 .ensures .0), search needs)))
