@@ -34,6 +34,16 @@ fn short_tenths(n: u32) -> u32
     n * 65536 + 0x0A302E30 - n / 10 * (10 * 65536 - 1)
 }
 
+// Below a hundred percent: two digits, the point and a digit as one number, by the quotients.
+fn long_tenths(n: u32) -> u32
+    requires { ⌜ (100 ≤ n) × (n < 1000) ⌝ }
+    ensures { λ r. ⌜ fourBytes r ≡ tenthsText n ⌝ }
+{
+    let shifted = n as u64 * 16777216 + 0x302E3030;
+    let tens = (n / 10) as u64 * (10 * 16777216 - 256);
+    (shifted - tens - (n / 100) as u64 * (10 * 256 - 1)) as u32
+}
+
 // Tenths of a percent and the newline.
 fn put_tenths(page: &mut [u8], at: usize, n: u32) -> usize
     requires { ⌜ (n < 100000) × (at + 8 ≤ length (now page)) ⌝ }
@@ -42,27 +52,61 @@ fn put_tenths(page: &mut [u8], at: usize, n: u32) -> usize
     if n < 100 {
         return put_four_of(page, at, short_tenths(n));
     }
+    if n < 1000 {
+        let end = put_four_of(page, at, long_tenths(n));
+        return put_one(page, end, b'\n');
+    }
     let whole = n / 10;
     let point = put_decimal(page, at, whole);
     put_three(page, point, b'.', digit(n - whole * 10), b'\n')
 }
 
-// The change and the newline.
+fn is_known(change: ChangeAnswer) -> bool
+    ensures { λ r. ⌜ r ≡ changeValues change .known ⌝ }
+{
+    match change {
+        ChangeAnswer::Absent => false,
+        ChangeAnswer::Increase(_) => true,
+        ChangeAnswer::Decrease(_) => true,
+    }
+}
+
+fn is_negative(change: ChangeAnswer) -> bool
+    ensures { λ r. ⌜ r ≡ changeValues change .negative ⌝ }
+{
+    match change {
+        ChangeAnswer::Absent => false,
+        ChangeAnswer::Increase(_) => false,
+        ChangeAnswer::Decrease(_) => true,
+    }
+}
+
+fn tenths_of(change: ChangeAnswer) -> u64
+    ensures { λ r. ⌜ r ≡ changeValues change .tenths ⌝ }
+{
+    match change {
+        ChangeAnswer::Absent => 0,
+        ChangeAnswer::Increase(n) => n,
+        ChangeAnswer::Decrease(n) => n,
+    }
+}
+
+// The change and the newline. The tenths are written in one place, so that the compiler inlines it.
 fn put_end(page: &mut [u8], at: usize, change: ChangeAnswer) -> usize
     requires { ⌜ (changeValues change .tenths < 100000) × (at + 10 ≤ length (now page)) ⌝ }
     ensures { λ r. ⌜ (Wrote (now (page .entry)) at (32 ∷ (changeText (changeValues change) ++ (10 ∷ []))) r (now (page .exit))) × (r ≤ at + 10) ⌝ }
 {
-    match change {
-        ChangeAnswer::Absent => put_three(page, at, b' ', b'-', b'\n'),
-        ChangeAnswer::Increase(n) => {
-            let next = put_one(page, at, b' ');
-            put_tenths(page, next, n as u32)
-        }
-        ChangeAnswer::Decrease(n) => {
-            let next = put_two(page, at, b' ', b'-');
-            put_tenths(page, next, n as u32)
-        }
+    let tenths = tenths_of(change);
+    let negative = is_negative(change);
+    if !is_known(change) {
+        return put_three(page, at, b' ', b'-', b'\n');
     }
+    let next = if negative {
+        put_two(page, at, b' ', b'-')
+    } else {
+        put_one(page, at, b' ')
+    };
+    put_tenths(page, next, tenths as u32)
 }
 
 // The letter, a day of five digits and a space as one number. A digit is a quotient less ten times the one before it, so that the digits,
