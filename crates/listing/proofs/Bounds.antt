@@ -3,9 +3,6 @@
 use mathlib.Core.Path.{_≡_}
 use Prim.Native.Nat.{ℕ, _<_}
 use native.Mathlib.Omega.{arith}
-use Rattle.criteria.specs.declared.ChangeAnswer.{ChangeAnswer}
-use Rattle.criteria.specs.declared.ChangeAnswer.the-variants as C
-use Rattle.criteria.specs.Change.{changeValues}
 use Rattle.endpoints.specs.declared.DurationAnswer.{DurationAnswer}
 use Rattle.endpoints.specs.declared.DurationAnswer.the-variants as D
 use Rattle.endpoints.specs.declared.DurationResult.{DurationResult}
@@ -17,12 +14,6 @@ use Rattle.placing.specs.declared.MaybeVisit.the-variants as J
 use Rattle.placing.specs.Lines.{judgedValues, visitValues}
 use Rattle.outcome.specs.Laws.{DurationWithin}
 use Rattle.listing.specs.Writing.{Writable, AllWritable}
-
-pub increase-small : (c : ChangeAnswer) (n : ℕ) → c ≡ C.Increase n → changeValues c .tenths < 100000 → n < 100000
-increase-small c n q h = rw q at h
-
-pub decrease-small : (c : ChangeAnswer) (n : ℕ) → c ≡ C.Decrease n → changeValues c .tenths < 100000 → n < 100000
-decrease-small c n q h = rw q at h
 
 pub days-small : (d : DurationAnswer) (r : DurationResult) → d ≡ D.ForDays r → DurationWithin (durationValues d) → r .days < 100000
 days-small d r q h = let w : Within (r .days) = rw q at h in omega arith

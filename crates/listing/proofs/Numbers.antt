@@ -25,7 +25,7 @@ high : (w a v : ℕ) → a < 256 → w ≡ a + v * 256 → w / 256 ≡ v
 high w a v h e = omega arith
 
 -- the bytes of a number are what stands at its places
-pub four : (w a b c d : ℕ) → a < 256 → b < 256 → c < 256 → w ≡ a + (b + (c + d * 256) * 256) * 256 → fourBytes w ≡ a ∷ b ∷ c ∷ d ∷ []
+four : (w a b c d : ℕ) → a < 256 → b < 256 → c < 256 → w ≡ a + (b + (c + d * 256) * 256) * 256 → fourBytes w ≡ a ∷ b ∷ c ∷ d ∷ []
 four w a b c d ha hb hc e =
     let k₁ = high w a (b + (c + d * 256) * 256) ha e in
     let k₂ = high (w / 256) b (c + d * 256) hb k₁ in
@@ -34,7 +34,7 @@ four w a b c d ha hb hc e =
     let r₃ : w / 16777216 ≡ w / 256 / 256 / 256 = omega arith in
     rw (r₂, r₃) (λ i. low w a _ ha e i ∷ low (w / 256) b _ hb k₁ i ∷ low (w / 256 / 256) c _ hc k₂ i ∷ k₃ i ∷ [])
 
-pub eight : (w a b c d e f g h : ℕ) → a < 256 → b < 256 → c < 256 → d < 256 → e < 256 → f < 256 → g < 256 →
+eight : (w a b c d e f g h : ℕ) → a < 256 → b < 256 → c < 256 → d < 256 → e < 256 → f < 256 → g < 256 →
     w ≡ a + (b + (c + (d + (e + (f + (g + h * 256) * 256) * 256) * 256) * 256) * 256) * 256 →
     eightBytes w ≡ a ∷ b ∷ c ∷ d ∷ e ∷ f ∷ g ∷ h ∷ []
 eight w a b c d e f g h ha hb hc hd he hf hg q =
@@ -72,7 +72,7 @@ by-quotients n =
     let s : n / 1000 ≡ n / 10000 * 10 + n / 1000 % 10 = omega arith in
     omega arith
 
-pub digits-small : (n : ℕ) → n < 100000 → fiveDigits n < 42949672960
+digits-small : (n : ℕ) → n < 100000 → fiveDigits n < 42949672960
 digits-small n h = omega arith
 
 less : (x y d : ℕ) → x ≡ y + d → x - y ≡ d
@@ -82,7 +82,7 @@ at-places : (w a b c d e : ℕ) → w ≡ (a + (b + (c + (d + e * 256) * 256) * 
     w ≡ 86 + (32 + (digit a + (digit b + (digit c + (digit d + (digit e + 32 * 256) * 256) * 256) * 256) * 256) * 256) * 256
 at-places w a b c d e q = omega arith
 
-pub start : (n w : ℕ) → n < 100000 → w ≡ (n * 4294967296 - quotients n * 2559) * 65536 + 2319406791620829270 →
+start : (n w : ℕ) → n < 100000 → w ≡ (n * 4294967296 - quotients n * 2559) * 65536 + 2319406791620829270 →
     eightBytes w ≡ 86 ∷ 32 ∷ digit (n / 10000) ∷ digit (n / 1000 % 10) ∷ digit (n / 100 % 10) ∷ digit (n / 10 % 10) ∷ digit (n % 10) ∷ 32 ∷ []
 start n w h e =
     eight w 86 32 (digit (n / 10000)) (digit (n / 1000 % 10)) (digit (n / 100 % 10)) (digit (n / 10 % 10)) (digit (n % 10)) 32
@@ -90,8 +90,21 @@ start n w h e =
     (at-places w (n / 10000) (n / 1000 % 10) (n / 100 % 10) (n / 10 % 10) (n % 10)
     (e ∙ ap (λ (x : ℕ). x * 65536 + 2319406791620829270) (less (n * 4294967296) (quotients n * 2559) (fiveDigits n) (by-quotients n))))
 
+-- the number of the start fits
+scaled : (x d : ℕ) → x ≡ d → d < 42949672960 → x * 65536 < 2814749767106560
+scaled x d e h = omega arith
+
+pub start-small : (n : ℕ) → n < 100000 → (n * 4294967296 - quotients n * 2559) * 65536 < 2814749767106560
+start-small n h = scaled _ (fiveDigits n) (less (n * 4294967296) (quotients n * 2559) (fiveDigits n) (by-quotients n)) (digits-small n h)
+
+pub below-64 : {x : ℕ} → x < 2814749767106560 → x < 2 ^ 64
+below-64 h = omega arith
+
+pub sum-below-64 : {x : ℕ} → x < 2814749767106560 → x + 2319406791620829270 < 2 ^ 64
+sum-below-64 h = omega arith
+
 -- the letters of three words
-pub words : (w a b c d e f : ℕ) → a < 256 → b < 256 → c < 256 → d < 256 → e < 256 →
+words : (w a b c d e f : ℕ) → a < 256 → b < 256 → c < 256 → d < 256 → e < 256 →
     w ≡ a + b * 256 + (c + d * 256) * 16777216 + (e + f * 256) * 281474976710656 + 35184374185984 →
     eightBytes w ≡ a ∷ b ∷ 32 ∷ c ∷ d ∷ 32 ∷ e ∷ f ∷ []
 words w a b c d e f ha hb hc hd he q =
@@ -138,22 +151,6 @@ tenths-text n d e =
     let same : n - n / 10 * 10 ≡ n % 10 = omega arith in
     ap (λ (x : ℕ). decimal (n / 10) ++ (46 ∷ x ∷ 10 ∷ [])) (e ∙ ap digit same)
     ∙ sym (append-assoc (decimal (n / 10)) (46 ∷ digit (n % 10) ∷ []) (10 ∷ []))
-
--- and the number fits
-scaled : (x d : ℕ) → x ≡ d → d < 42949672960 → x * 65536 < 2814749767106560
-scaled x d e h = omega arith
-
-pub start-small : (n : ℕ) → n < 100000 → (n * 4294967296 - quotients n * 2559) * 65536 < 2814749767106560
-start-small n h = scaled _ (fiveDigits n) (less (n * 4294967296) (quotients n * 2559) (fiveDigits n) (by-quotients n)) (digits-small n h)
-
-pub below-64 : {x : ℕ} → x < 2814749767106560 → x < 2 ^ 64
-below-64 h = omega arith
-
-pub sum-below-64 : {x : ℕ} → x < 2814749767106560 → x + 2319406791620829270 < 2 ^ 64
-sum-below-64 h = omega arith
-
-pub below-32 : {x : ℕ} → x < 100000 → x < 2 ^ 32
-below-32 h = omega arith
 
 pub start-text : (n w : ℕ) → 10000 ≤ n → n < 100000 → w ≡ (n * 4294967296 - quotients n * 2559) * 65536 + 2319406791620829270 →
     eightBytes w ≡ 86 ∷ 32 ∷ (decimal n ++ (32 ∷ []))
