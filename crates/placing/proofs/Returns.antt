@@ -39,7 +39,7 @@ use Rattle.placing.specs.declared.PlaceResult.{PlaceResult}
 use Rattle.held.specs.Visits.{eventAfter, countedAfter}
 use Rattle.placing.specs.Added.{heldDay, dayOn, answerOn, visitAdded, therapyAdded, deathAdded}
 use Rattle.placing.specs.Lines.{judgedValues, visitValues, lineJudged, lineOn, Advanced}
-use Rattle.placing.specs.Refusals.{addNumber, refusalBy, refusalOn, Behind, PlacesEntry, Places}
+use Rattle.placing.specs.Refusals.{addNumber, refusalBy, refusalOn, Behind, PlacesLater, PlacesEntry, Places}
 
 -- ---- whether a status is NA
 
@@ -183,11 +183,11 @@ module _ (s : Subject) (day : StudyDay) (a : AddAnswer) (n : ℕ) (x : PlaceResu
     visit-placed z w = went-on (refusalOn s day (E.Visit v) marks) n a x nq refusal-of-visit z w
 
   module _ (next : Subject) (aq : addNumber a ≡ refusalBy (isRecorded (dayValue (s .death))) (ltb (day .0) (s .latest .0)) false) where
-    pub later-refused : (n ≡ 0 → ⊥) → Stays → Behind s next [] (refusalBy (isRecorded (dayValue (s .death))) (ltb (day .0) (s .latest .0)) false) x
+    pub later-refused : (n ≡ 0 → ⊥) → Stays → PlacesLater s day next x
     later-refused z q = stopped _ n a x nq aq z q
 
-    pub later-placed : n ≡ 0 → Advanced next [] x → Behind s next [] (refusalBy (isRecorded (dayValue (s .death))) (ltb (day .0) (s .latest .0)) false) x
-    later-placed z w = went-on _ n a x nq aq z w
+    pub later-placed : n ≡ 0 → (made : Subject) → made ≡ next → Advanced made [] x → PlacesLater s day next x
+    later-placed z made e w = went-on _ n a x nq aq z (rw e at w)
 
 -- by the record's kind
 module _ (s : Subject) (day : StudyDay) (e : Entry) (marks : List Bool) (sizes : List ℕ) (x : PlaceResult) where
@@ -199,11 +199,11 @@ module _ (s : Subject) (day : StudyDay) (e : Entry) (marks : List Bool) (sizes :
   pub of-visit : (v : VisitEntry) → e ≡ E.Visit v → PlacesEntry s day (E.Visit v) marks sizes x → PlacesEntry s day e marks sizes x
   of-visit v q p = rw q p
 
-  module _ (next : Subject) (d : Date) (p : Behind s next [] (refusalBy (isRecorded (dayValue (s .death))) (ltb (day .0) (s .latest .0)) false) x) where
-    pub of-therapy : e ≡ E.Therapy d → next ≡ therapyAdded s day → PlacesEntry s day e marks sizes x
+  module _ (d : Date) where
+    pub of-therapy : e ≡ E.Therapy d → PlacesLater s day (therapyAdded s day) x → PlacesEntry s day e marks sizes x
     unfolding refusalOn
-    of-therapy q n = rw (q, ← n) p
+    of-therapy q p = rw q p
 
-    pub of-death : e ≡ E.Death d → next ≡ deathAdded s day → PlacesEntry s day e marks sizes x
+    pub of-death : e ≡ E.Death d → PlacesLater s day (deathAdded s day) x → PlacesEntry s day e marks sizes x
     unfolding refusalOn
-    of-death q n = rw (q, ← n) p
+    of-death q p = rw q p

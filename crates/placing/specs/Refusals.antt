@@ -60,6 +60,10 @@ pub record Behind (s next : Subject) (lines : List VisitLine) (refusal : ℕ) (x
   pub left : x .added .subject ≡ pick (eqb refusal 0) next s
   pub shown : visitValues (x .visit) ≡ pick (eqb refusal 0) lines []
 
+-- of a therapy or a death, by the subject after it: 9, or 10 before the latest day; no line
+abbrev pub PlacesLater : Subject → StudyDay → Subject → PlaceResult → Type 0
+PlacesLater s day next x = Behind s next [] (refusalBy (isRecorded (dayValue (s .death))) (ltb (day .0) (s .latest .0)) false) x
+
 -- of a record that none of its own refusals meets, on a study day: the first of 8 to 11
 abbrev pub PlacesEntry : Subject → StudyDay → Entry → List Bool → List ℕ → PlaceResult → Type 0
 PlacesEntry s day e marks sizes x = Behind s (entryAdded s day e marks sizes) (linesOn s day e marks sizes) (refusalOn s day e marks) x

@@ -22,10 +22,10 @@ ghost use mathlib.Core.List.{[]};
 ghost use lib.Dec.{ltb};
 ghost use Rattle.records.specs.declared.Entry.the-variants as E;
 ghost use Rattle.endpoints.specs.Values.{isRecorded, dayValue};
-ghost use Rattle.placing.specs.Added.{heldDay};
+ghost use Rattle.placing.specs.Added.{heldDay, therapyAdded, deathAdded};
 ghost use Rattle.placing.specs.declared.MaybeVisit.the-variants as J;
 ghost use Rattle.placing.specs.Lines.{Advanced};
-ghost use Rattle.placing.specs.Refusals.{addNumber, refusalBy, Behind, PlacesEntry, Places};
+ghost use Rattle.placing.specs.Refusals.{addNumber, refusalBy, PlacesLater, PlacesEntry, Places};
 
 // The study day of a date; 0, which is no study day, where there is none.
 fn held_day(randomisation: Date, date: Date) -> StudyDay
@@ -98,15 +98,34 @@ fn place_visit(
     visited(s, day, v, measured, sizes)
 }
 
-// A therapy or a death, by the subject after it: on or after the latest day, and no line.
-fn place_later(s: Subject, day: StudyDay, next: Subject) -> PlaceResult
-    ensures { λ x. ⌜ Behind s next [] (refusalBy (isRecorded (dayValue (s .death))) (ltb (day .0) (s .latest .0)) false) x ⌝ }
+// 9 and 10 of a therapy or a death, which is on or after the latest day.
+fn refusal_on_or_after(s: Subject, day: StudyDay) -> AddAnswer
+    ensures { λ a. ⌜ addNumber a ≡ refusalBy (isRecorded (dayValue (s .death))) (ltb (day .0) (s .latest .0)) false ⌝ }
 {
-    let refusal = refusal_behind(s, day.0 < s.latest.0, false);
+    refusal_behind(s, day.0 < s.latest.0, false)
+}
+
+// Apart from a death, since a function of the next subject for both would keep the subject in memory for every record of a file.
+fn place_therapy(s: Subject, day: StudyDay) -> PlaceResult
+    ensures { λ x. ⌜ PlacesLater s day (therapyAdded s day) x ⌝ }
+{
+    let refusal = refusal_on_or_after(s, day);
     if add_number(refusal) != 0 {
         return refused(s, refusal);
     }
-    advanced(next)
+    let treated = with_therapy(s, day);
+    advanced(treated)
+}
+
+fn place_death(s: Subject, day: StudyDay) -> PlaceResult
+    ensures { λ x. ⌜ PlacesLater s day (deathAdded s day) x ⌝ }
+{
+    let refusal = refusal_on_or_after(s, day);
+    if add_number(refusal) != 0 {
+        return refused(s, refusal);
+    }
+    let dead = with_death(s, day);
+    advanced(dead)
 }
 
 fn place_on(s: Subject, day: StudyDay, r: Record) -> PlaceResult
@@ -118,8 +137,8 @@ fn place_on(s: Subject, day: StudyDay, r: Record) -> PlaceResult
     match entry {
         Entry::Baseline(_) => refused(s, AddAnswer::SecondBaseline),
         Entry::Visit(v) => place_visit(s, day, v, marks, sizes),
-        Entry::Therapy(_) => place_later(s, day, with_therapy(s, day)),
-        Entry::Death(_) => place_later(s, day, with_death(s, day)),
+        Entry::Therapy(_) => place_therapy(s, day),
+        Entry::Death(_) => place_death(s, day),
     }
 }
 

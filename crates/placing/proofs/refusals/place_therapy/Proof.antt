@@ -1,17 +1,18 @@
--- `placing::refusals::place_later` meets its contract.
+-- `placing::refusals::place_therapy` meets its contract.
 -- Assumes nothing.
 use borrow.Author.Needs.{needs}
 use Rattle.placing.proofs.Returns.{later-refused, later-placed}
-use Rattle.placing.proofs.refusals.place_later.Statement.{statement}
-use Rattle.placing.proofs.refusals.place_later.Tie as tie
+use Rattle.placing.proofs.refusals.place_therapy.Statement.{statement}
+use Rattle.placing.proofs.refusals.place_therapy.Tie as tie
 
-pub place-later-spec : {M : Type 1} → statement M
-place-later-spec =
+pub place-therapy-spec : {M : Type 1} → statement M
+place-therapy-spec =
     tie.close
     (tie.spec
     (λ c κs. search needs)
     (λ c κs. search needs)
     (λ c κs. search needs)
     (λ c. search later-refused)
+    (λ c κs. search needs)
     (λ c κs. search needs)
     (λ c. search later-placed))

@@ -1,0 +1,18 @@
+-- `placing::refusals::place_death` meets its contract.
+-- Assumes nothing.
+use borrow.Author.Needs.{needs}
+use Rattle.placing.proofs.Returns.{later-refused, later-placed}
+use Rattle.placing.proofs.refusals.place_death.Statement.{statement}
+use Rattle.placing.proofs.refusals.place_death.Tie as tie
+
+pub place-death-spec : {M : Type 1} → statement M
+place-death-spec =
+    tie.close
+    (tie.spec
+    (λ c κs. search needs)
+    (λ c κs. search needs)
+    (λ c κs. search needs)
+    (λ c. search later-refused)
+    (λ c κs. search needs)
+    (λ c κs. search needs)
+    (λ c. search later-placed))
