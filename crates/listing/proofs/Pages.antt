@@ -2,12 +2,11 @@
 -- Assumes nothing.
 use mathlib.Core.Path.{_≡_, sym, _∙_, ap, subst}
 use mathlib.Core.List.{List, _++_}
-use Prim.Native.Nat.{ℕ, suc, _+_, _≤_, _<_}
+use Prim.Native.Nat.{ℕ, _+_, _≤_, _<_}
 use native.Mathlib.Nat.{zero-add}
-use native.Mathlib.Numerals.{add-one}
 use native.Mathlib.Omega.{arith}
-use lib.ListN.{length, length-append, getD, set, take, drop, take-append-drop}
-use lib.Seq.{drop-cons, append-snoc, set-at, take-suc, length-take-le, drop-append-seam, sets-eq}
+use lib.ListN.{length, length-append, take, drop, take-append-drop}
+use lib.Seq.{take-length, length-take-le, drop-append-seam, sets-eq}
 use Rattle.outcome.specs.Promises.{outcome, outcomeValues}
 use Rattle.outcome.specs.Laws.{TellsWithin}
 use Rattle.outcome.specs.declared.OutcomeResult.{OutcomeResult}
@@ -20,17 +19,10 @@ use Rattle.text.proofs.Lengths.{lengths}
 use Rattle.listing.specs.Writing.{Wrote, SmallIndex, JudgesInto, Lists}
 use Rattle.listing.proofs.Writing.{then, as-text}
 
--- one byte more is copied
-pub copied : (from page : List ℕ) (i : ℕ) → i < length from → i < length page →
-    set (take i from ++ drop i page) i (getD from i 0) ≡ take (i + 1) from ++ drop (i + 1) page
-copied from page i h k =
-    let e : i + 1 ≡ suc i = add-one i in
-    let size : length (take i from) ≡ i = length-take-le i from (omega arith) in
-    rw e
-    (ap (λ (t : List ℕ). set (take i from ++ t) i (getD from i 0)) (drop-cons page i 0 k)
-    ∙ set-at (take i from) (getD page i 0) (drop (suc i) page) (getD from i 0) i size
-    ∙ sym (append-snoc (take i from) (getD from i 0) (drop (suc i) page))
-    ∙ ap (λ (t : List ℕ). t ++ drop (suc i) page) (sym (take-suc from i 0 h)))
+-- the kit's copy of the first n bytes
+pub copied : (from page left : List ℕ) (n : ℕ) → n ≤ length from → left ≡ take (length (take n from)) (take n from) ++ drop (length (take n from)) page →
+    left ≡ take n from ++ drop n page
+copied from page left n h e = e ∙ rw (take-length (take n from), length-take-le n from h)
 
 -- a text written from the start on, where there is room
 from-start : (page text left : List ℕ) (n : ℕ) → length text ≤ length page → Wrote page 0 text n left → (n ≡ length text) × (left ≡ text ++ drop (length text) page)

@@ -11,7 +11,7 @@ ghost use Rattle.file.specs.File.{fileValues, refused};
 ghost use Rattle.text.specs.Text.{longestListing};
 ghost use Rattle.listing.specs.Writing.{JudgesInto, Lists};
 
-mod bytes; // bytes.rt: bytes and numbers into a page
+mod page; // page.rt: bytes and numbers into a page
 mod words; // words.rt: the words of answers into a page
 mod visits; // visits.rt: the line of a visit
 mod outcomes; // outcomes.rt: the lines of the outcome, and the line of a refusal
@@ -73,11 +73,7 @@ fn copy(from: &[u8], page: &mut [u8], n: usize)
     requires { ⌜ (n ≤ length (now from)) × (n ≤ length (now page)) ⌝ }
     ensures { λ _. ⌜ now (page .exit) ≡ take n (now (from .entry)) ++ drop n (now (page .entry)) ⌝ }
 {
-    let mut i: usize = 0;
-    while i < n {
-        page[i] = from[i];
-        i += 1;
-    }
+    bytes::copy(&from[..n], page);
 }
 
 // The page has room for the longest listing, so that none is cut short. Where a file is refused behind a visit, the page is restored first.

@@ -1,8 +1,8 @@
 // The lines of the outcome, and the line of a refusal.
-use super::bytes::put_decimal;
-use super::bytes::put_five;
-use super::bytes::put_one;
-use super::bytes::put_two;
+use super::page::put_decimal;
+use super::page::put_five;
+use super::page::put_one;
+use super::page::put_two;
 use super::words::best_letters;
 use super::words::put_status;
 use super::words::put_word;

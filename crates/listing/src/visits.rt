@@ -1,11 +1,11 @@
 // The line of a visit.
-use super::bytes::digit;
-use super::bytes::put_decimal;
-use super::bytes::put_eight_of;
-use super::bytes::put_four_of;
-use super::bytes::put_one;
-use super::bytes::put_three;
-use super::bytes::put_two;
+use super::page::digit;
+use super::page::put_decimal;
+use super::page::put_eight_of;
+use super::page::put_four_of;
+use super::page::put_one;
+use super::page::put_three;
+use super::page::put_two;
 use super::words::overall_letters;
 use super::words::status_letters;
 use super::words::target_letters;

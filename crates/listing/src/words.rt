@@ -1,6 +1,6 @@
 // The words of answers into a page, each behind a space.
-use super::bytes::put_five;
-use super::bytes::put_three;
+use super::page::put_five;
+use super::page::put_three;
 use criteria::Overall;
 use criteria::Target;
 use endpoints::BestResponse;

@@ -1,9 +1,9 @@
--- `listing::bytes::put_three` meets its contract.
+-- `listing::page::put_three` meets its contract.
 -- Assumes nothing.
 use borrow.Author.Needs.{needs}
 use Rattle.listing.proofs.Writing.{then}
-use Rattle.listing.proofs.bytes.put_three.Statement.{statement}
-use Rattle.listing.proofs.bytes.put_three.Tie as tie
+use Rattle.listing.proofs.page.put_three.Statement.{statement}
+use Rattle.listing.proofs.page.put_three.Tie as tie
 
 pub put-three-spec : {M : Type 1} → statement M
 put-three-spec =

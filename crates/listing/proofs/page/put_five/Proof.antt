@@ -1,9 +1,9 @@
--- `listing::bytes::put_five` meets its contract.
+-- `listing::page::put_five` meets its contract.
 -- Assumes nothing.
 use borrow.Author.Needs.{needs}
 use Rattle.listing.proofs.Writing.{then}
-use Rattle.listing.proofs.bytes.put_five.Statement.{statement}
-use Rattle.listing.proofs.bytes.put_five.Tie as tie
+use Rattle.listing.proofs.page.put_five.Statement.{statement}
+use Rattle.listing.proofs.page.put_five.Tie as tie
 
 pub put-five-spec : {M : Type 1} → statement M
 put-five-spec =

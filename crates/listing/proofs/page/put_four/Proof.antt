@@ -1,9 +1,9 @@
--- `listing::bytes::put_four` meets its contract.
+-- `listing::page::put_four` meets its contract.
 -- Assumes nothing.
 use borrow.Author.Needs.{needs}
 use Rattle.listing.proofs.Writing.{then}
-use Rattle.listing.proofs.bytes.put_four.Statement.{statement}
-use Rattle.listing.proofs.bytes.put_four.Tie as tie
+use Rattle.listing.proofs.page.put_four.Statement.{statement}
+use Rattle.listing.proofs.page.put_four.Tie as tie
 
 pub put-four-spec : {M : Type 1} → statement M
 put-four-spec =

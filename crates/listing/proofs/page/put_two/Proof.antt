@@ -1,9 +1,9 @@
--- `listing::bytes::put_two` meets its contract.
+-- `listing::page::put_two` meets its contract.
 -- Assumes nothing.
 use borrow.Author.Needs.{needs}
 use Rattle.listing.proofs.Writing.{then}
-use Rattle.listing.proofs.bytes.put_two.Statement.{statement}
-use Rattle.listing.proofs.bytes.put_two.Tie as tie
+use Rattle.listing.proofs.page.put_two.Statement.{statement}
+use Rattle.listing.proofs.page.put_two.Tie as tie
 
 pub put-two-spec : {M : Type 1} → statement M
 put-two-spec =

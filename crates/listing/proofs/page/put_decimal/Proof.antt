@@ -1,9 +1,9 @@
--- `listing::bytes::put_decimal` meets its contract.
+-- `listing::page::put_decimal` meets its contract.
 -- Assumes nothing.
 use borrow.Author.Needs.{needs}
 use Rattle.listing.proofs.Numerals.{wrote-one, wrote-two, wrote-three, wrote-four, wrote-five}
-use Rattle.listing.proofs.bytes.put_decimal.Statement.{statement}
-use Rattle.listing.proofs.bytes.put_decimal.Tie as tie
+use Rattle.listing.proofs.page.put_decimal.Statement.{statement}
+use Rattle.listing.proofs.page.put_decimal.Tie as tie
 
 pub put-decimal-spec : {M : Type 1} → statement M
 put-decimal-spec =

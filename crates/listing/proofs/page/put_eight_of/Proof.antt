@@ -1,9 +1,9 @@
--- `listing::bytes::put_eight_of` meets its contract.
+-- `listing::page::put_eight_of` meets its contract.
 -- Assumes nothing.
 use borrow.Author.Needs.{needs}
 use Rattle.listing.proofs.Writing.{then}
-use Rattle.listing.proofs.bytes.put_eight_of.Statement.{statement}
-use Rattle.listing.proofs.bytes.put_eight_of.Tie as tie
+use Rattle.listing.proofs.page.put_eight_of.Statement.{statement}
+use Rattle.listing.proofs.page.put_eight_of.Tie as tie
 
 pub put-eight-of-spec : {M : Type 1} → statement M
 put-eight-of-spec =
