@@ -7,13 +7,12 @@ use Prim.Native.Nat.{ℕ, suc, _≤_, _<_}
 use native.Mathlib.Omega.{arith}
 use lib.ListN.{length, drop}
 use borrow.Author.Tests.{eq-eqb, ne-eqb, lt-ltb, le-ltb}
-use Rattle.laws.specs.Choice.{either, pick}
+use Rattle.laws.specs.Choice.{either}
 use Rattle.packing.specs.Layout.{AreBytes}
 use Rattle.dates.specs.Calendar.{dateExists}
 use Rattle.dates.specs.declared.Date.{Date}
 use Rattle.records.specs.Form.{dateOf, Five}
 use Rattle.records.specs.Refusals.{checkNumber, outsideLimits, notZero, firstOwn, refusalOfRead, refusalOf}
-use Rattle.records.specs.declared.Entry.{Entry}
 use Rattle.records.specs.declared.Entry.the-variants as E
 use Rattle.records.specs.declared.VisitEntry.{VisitEntry}
 use Rattle.records.specs.declared.Record.{Record}

@@ -21,7 +21,7 @@ use Rattle.records.specs.Form.{dateOf, Five}
 use Rattle.records.specs.Refusals.{mostTargets, withoutDisease, outsideLimits, notZero, refusalOf}
 use Rattle.records.proofs.Passed.{passes}
 use Rattle.endpoints.specs.StudyRecords.{Baseline, StudyRecord, baseline, visit, therapy, death, entryPasses, fieldsPass, studyDay, entryOnStudyDay, onStudyDay}
-use Rattle.endpoints.specs.Lawful.{Past, latestDay, died, fits, lawfulBehind, lawful}
+use Rattle.endpoints.specs.Lawful.{Past, latestDay, died, fits, lawfulBehind}
 use Rattle.endpoints.specs.Adding.{isBaseline, tooEarly, refusalBehind}
 use Rattle.endpoints.proofs.Behind.{from-day-1}
 

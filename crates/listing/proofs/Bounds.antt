@@ -1,7 +1,7 @@
 -- What is asked of one case of an answer, from what is asked of the answer.
 -- Assumes nothing.
 use mathlib.Core.Path.{_≡_}
-use Prim.Native.Nat.{ℕ, _<_}
+use Prim.Native.Nat.{_<_}
 use native.Mathlib.Omega.{arith}
 use Rattle.endpoints.specs.declared.DurationAnswer.{DurationAnswer}
 use Rattle.endpoints.specs.declared.DurationAnswer.the-variants as D

@@ -12,7 +12,6 @@ use Rattle.records.specs.declared.Entry.{Entry}
 use Rattle.records.specs.declared.Entry.the-variants as E
 use Rattle.records.specs.Form.{dateOf}
 use Rattle.criteria.specs.Inputs.{Visit}
-use Rattle.criteria.specs.Nadir.{leftBy}
 use Rattle.criteria.proofs.Laws.{nadir-laws}
 use Rattle.endpoints.specs.Values.{Day, on, isRecorded, _orElse_}
 use Rattle.endpoints.specs.StudyRecords.{Baseline, baseline, disease, studyDay, entryOnStudyDay}

@@ -60,8 +60,8 @@ fn own_refusals_of_files() {
     );
 }
 
-// 7 to 11.
-fn placing_refusals() {
+// 7 and 8.
+fn baseline_refusals() {
     // A therapy, which opening refuses by 7; a visit, which the blank subject refuses by 12.
     history::shown(
         b"no baseline\n",
@@ -72,6 +72,10 @@ fn placing_refusals() {
         b"a second baseline\n",
         b"\x2F\xC8\x21\xD0\x28\x82\x80\x00\x00\x00\x00\x2F\xC8\x21\xD0\x28\x82\x80\x00\x00\x00\x00",
     );
+}
+
+// 9 to 11.
+fn later_refusals() {
     // The baseline of the printed example; death on day 5, therapy on day 6.
     history::shown(
         b"after a death\n",
@@ -230,7 +234,8 @@ fn longest_file() {
 // Randomisation is on 2020-01-01 in each history but the longest.
 fn main() {
     own_refusals_of_files();
-    placing_refusals();
+    baseline_refusals();
+    later_refusals();
     lengths();
     bytes_of_one();
     own_refusals();
