@@ -1,6 +1,6 @@
 pub mod AtTheEdges
 pub mod Window
-pub mod Answers
+pub mod Returns
 pub mod Parts
 pub mod ReadBack
 pub mod Found

@@ -25,7 +25,7 @@ use Rattle.records.proofs.Passed.{passes, small-baseline, small-sizes}
 use Rattle.codec.specs.Bytes.{bit, headLayout, targetsLayout, bodyLayout, headFields, targetFields, bodyFields, recordLength, recordNumber, bytesOf}
 use Rattle.codec.specs.Writing.{Writes}
 use Rattle.codec.specs.declared.WriteAnswer.the-variants.{Done}
-use Rattle.codec.proofs.Answers.{writes-stored}
+use Rattle.codec.proofs.Returns.{writes-stored}
 
 bit-lt : (b : Bool) → bit b < 2
 bit-lt true = omega arith

@@ -1,7 +1,7 @@
 -- `codec::answered` meets its contract: `search` finds what was answered.
 -- Assumes nothing.
 use borrow.Author.Needs.{needs}
-use Rattle.codec.proofs.Answers.{judged-no-date, judged-outside, judged-not-zero, judged-passed}
+use Rattle.codec.proofs.Returns.{judged-no-date, judged-outside, judged-not-zero, judged-passed}
 use Rattle.codec.proofs.answered.Statement.{statement}
 use Rattle.codec.proofs.answered.Tie as tie
 

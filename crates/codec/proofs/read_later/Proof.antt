@@ -2,7 +2,7 @@
 -- Assumes nothing.
 use native.Mathlib.Omega.{arith}
 use borrow.Author.Needs.{needs}
-use Rattle.codec.proofs.Answers.{reads-length, reads-no-kind, reads-judged, reads-visit}
+use Rattle.codec.proofs.Returns.{reads-length, reads-no-kind, reads-judged, reads-visit}
 use Rattle.codec.proofs.read_later.Statement.{statement}
 use Rattle.codec.proofs.read_later.Tie as tie
 

@@ -1,7 +1,7 @@
 -- `codec::read_visit` meets its contract: its date, then its own tests.
 -- Assumes nothing.
 use borrow.Author.Needs.{needs}
-use Rattle.codec.proofs.Answers.{visit-no-date, visit-judged}
+use Rattle.codec.proofs.Returns.{visit-no-date, visit-judged}
 use Rattle.codec.proofs.read_visit.Statement.{statement}
 use Rattle.codec.proofs.read_visit.Tie as tie
 

@@ -4,7 +4,7 @@ use mathlib.Core.Path.{refl, ap, _∙_, sym}
 use borrow.Author.Needs.{needs}
 use Rattle.records.specs.Refusals.{checkNumber}
 use Rattle.records.proofs.Passed.{passes}
-use Rattle.codec.proofs.Answers.{writes-refused, writes-short}
+use Rattle.codec.proofs.Returns.{writes-refused, writes-short}
 use Rattle.codec.proofs.Parts.{writes-parts}
 use Rattle.codec.proofs.write.Statement.{statement}
 use Rattle.codec.proofs.write.Tie as tie

@@ -1,7 +1,7 @@
 -- `records::check_read` meets its contract: `search` finds what the tests said.
 -- Assumes nothing.
 use borrow.Author.Needs.{needs}
-use Rattle.records.proofs.Answers.{no-date, no-status, by-fields}
+use Rattle.records.proofs.Returns.{no-date, no-status, by-fields}
 use Rattle.records.proofs.check_read.Statement.{statement}
 use Rattle.records.proofs.check_read.Tie as tie
 

@@ -2,7 +2,7 @@
 -- Assumes nothing.
 use borrow.Author.Needs.{needs}
 use Rattle.records.specs.Refusals.{outsideLimits, notZero}
-use Rattle.records.proofs.Answers.{visit-broken, visit-unbroken}
+use Rattle.records.proofs.Returns.{visit-broken, visit-unbroken}
 use Rattle.records.proofs.check_visit.Statement.{statement}
 use Rattle.records.proofs.check_visit.Tie as tie
 

@@ -1,7 +1,7 @@
 -- `records::targets::beyond_mark` meets its contract.
 -- Assumes nothing.
 use borrow.Author.Needs.{needs}
-use Rattle.records.proofs.Answers.{beyond-mark}
+use Rattle.records.proofs.Returns.{beyond-mark}
 use Rattle.records.proofs.targets.beyond_mark.Statement.{statement}
 use Rattle.records.proofs.targets.beyond_mark.Tie as tie
 
