@@ -1,5 +1,5 @@
 // What standard input holds, to its end or past the longest file (document 01, "Change in size, file and listing"). The programs `list` and
-// `examples` read by it.
+// `refusals` read by it.
 ghost use mathlib.Core.Path.{_≡_};
 ghost use Prim.Native.Nat.{_+_, _≤_};
 ghost use lib.ListN.{length};
