@@ -18,7 +18,7 @@ use Rattle.endpoints.specs.Lines.{lineOf}
 use Rattle.endpoints.specs.Settled.{settledFrom, pfsSettledBy, bestSettledBy, durationSettledBy, pfsSettled, bestSettled, durationSettled}
 use Rattle.endpoints.specs.Adding.{refusalBehind, refusalOfOpening, refusalOfAdding}
 use Rattle.endpoints.specs.Examples.{starred, Hold}
-use Rattle.endpoints.specs.FurtherExamples.{further, PrintedLines}
+use Rattle.endpoints.specs.FurtherExamples.{further, PrintedLines, FieldsThatPass}
 use Rattle.endpoints.specs.AddingExamples.{Unlawful, FittingStatuses, OnStudyDays, FirstRefusals}
 
 pub examples-hold : Hold starred × Hold further
@@ -51,6 +51,18 @@ pub printed-lines : PrintedLines
 unfolding lineOf measuredSum baselineSum allMeasured allGone grown shrunk targetAnswer nadirOf overallAnswer changeBetween changeOf
 printed-lines = record { inOrder = refl }
 
+pub fields-that-pass : FieldsThatPass
+unfolding entryPasses largeMeasured sizedUnmeasured outsideLimits notZero
+fields-that-pass =
+    record {
+      largest = refl;
+      tooLarge = refl;
+      sizeUnmeasured = refl;
+      fourSizes = refl;
+      fourMarks = refl;
+      everyRecord = refl;
+    }
+
 pub on-study-days : OnStudyDays
 unfolding dateExists daysInMonth leapYear daysOfYears daysOfMonths dayNumber studyDayOf
 on-study-days =
@@ -79,6 +91,7 @@ first-refusals =
       therapyOnDay1 = refl;
       visitOnDay1 = refl;
       therapyOnLatest = refl;
+      deathOnLatest = refl;
       visitOnLatest = refl;
       misfitOnLatest = refl;
       statusNA = refl;

@@ -88,6 +88,7 @@ pub record FirstRefusals : Type 0 where
   pub therapyOnDay1 : refusalOfAdding (opened ∷ []) (therapyDated (ymd 2020 1 1)) ≡ 0
   pub visitOnDay1 : refusalOfAdding (opened ∷ []) (visitDated (ymd 2020 1 1) S.NN false [] []) ≡ 10
   pub therapyOnLatest : refusalOfAdding (opened ∷ visited ∷ []) (therapyDated (ymd 2020 2 12)) ≡ 0
+  pub deathOnLatest : refusalOfAdding (opened ∷ visited ∷ []) (deathDated (ymd 2020 2 12)) ≡ 0
   pub visitOnLatest : refusalOfAdding (opened ∷ visited ∷ []) visited ≡ 10
   -- 10 before 11
   pub misfitOnLatest : refusalOfAdding (opened ∷ visited ∷ []) (visitDated (ymd 2020 2 12) S.NA false [] []) ≡ 10

@@ -5,10 +5,11 @@ use mathlib.Core.Path.{_≡_}
 use mathlib.Core.Bool.{true, false}
 use mathlib.Core.List.{List, [], _∷_, reverse}
 use Rattle.records.specs.declared.Status.the-variants as S
+use Rattle.records.specs.Examples.{filled}
 use Rattle.criteria.specs.Words.{CR, PR, SD, PD, NE, NN}
 use Rattle.criteria.specs.Change.{signed}
 use Rattle.endpoints.specs.Values.{EVENT, CENSORED, event, censored, forDays}
-use Rattle.endpoints.specs.StudyRecords.{Baseline, StudyRecord, therapy, death}
+use Rattle.endpoints.specs.StudyRecords.{Baseline, StudyRecord, visit, therapy, death, fieldsPass, allPass}
 use Rattle.endpoints.specs.Lawful.{Past}
 use Rattle.endpoints.specs.Lines.{visitLines}
 use Rattle.endpoints.specs.Examples.{oneTarget, withNode, noTargets, missing, visitOn, measuring, unmeasured, Said, is, pfsIs, bestIs, durationIs, pfsOfList, bestOfList, durationOfList, pfsSettledOfList, bestSettledOfList, durationSettledOfList, Example, example}
@@ -33,6 +34,15 @@ pub record PrintedLines : Type 0 where
       ∷ record { day = 85; target = CR; nontarget = NN; overall = PR; change = signed true 850 }
       ∷ record { day = 127; target = PD; nontarget = NN; overall = PD; change = signed true 750 }
       ∷ []
+
+-- five sizes of at most 500, none of them unmeasured, in every record
+pub record FieldsThatPass : Type 0 where
+  pub largest : fieldsPass (measuring 43 500) ≡ true
+  pub tooLarge : fieldsPass (measuring 43 501) ≡ false
+  pub sizeUnmeasured : fieldsPass (visit 43 (record { status = S.NA; newLesion = false; measured = filled false 5 []; sizes = filled 0 5 (1 ∷ []) })) ≡ false
+  pub fourSizes : fieldsPass (visit 43 (record { status = S.NA; newLesion = false; measured = filled false 5 []; sizes = filled 0 4 [] })) ≡ false
+  pub fourMarks : fieldsPass (visit 43 (record { status = S.NA; newLesion = false; measured = filled false 4 []; sizes = filled 0 5 [] })) ≡ false
+  pub everyRecord : allPass (measuring 85 90 ∷ measuring 43 501 ∷ []) ≡ false
 
 unfoldable pub further : List Example
 further =
@@ -93,6 +103,13 @@ further =
     ∷ example oneTarget (measuring 43 0 ∷ measuring 50 0 ∷ measuring 71 0 ∷ []) (CR ∷ CR ∷ CR ∷ []) bestOfList (bestIs CR)
     ∷ example noTargets (visitOn 43 S.CR false [] ∷ visitOn 57 S.NN false [] ∷ visitOn 71 S.CR false [] ∷ []) (CR ∷ SD ∷ CR ∷ []) bestOfList
     (bestIs PR)
+    -- PD confirms no response, and SD no other one; a response that is confirmed stays so
+    ∷ example oneTarget (measuring 43 0 ∷ measuring 85 200 ∷ []) (CR ∷ PD ∷ []) bestOfList (bestIs SD)
+    ∷ example oneTarget (measuring 43 90 ∷ measuring 85 90 ∷ []) (SD ∷ SD ∷ []) bestOfList (bestIs SD)
+    ∷ example oneTarget (measuring 43 0 ∷ measuring 71 0 ∷ measuring 85 4 ∷ []) (CR ∷ CR ∷ PR ∷ []) bestOfList (bestIs CR)
+    -- no visit behind a therapy counts, and those before a death do
+    ∷ example oneTarget (therapy 20 ∷ measuring 43 90 ∷ measuring 85 90 ∷ []) (SD ∷ SD ∷ []) bestOfList (bestIs NE)
+    ∷ example oneTarget (measuring 43 60 ∷ measuring 85 60 ∷ death 90 ∷ []) (PR ∷ PR ∷ []) bestOfList (bestIs PR)
     -- a duration that is censored
     ∷ example oneTarget (measuring 43 0 ∷ measuring 50 0 ∷ measuring 71 0 ∷ []) (CR ∷ CR ∷ CR ∷ []) durationOfList
     (durationIs (forDays CENSORED 29))

@@ -2,12 +2,16 @@
 -- Assumes nothing.
 use mathlib.Core.Path.{_≡_}
 use mathlib.Core.Bool.{true, false}
-use mathlib.Core.List.{[], _∷_}
+use mathlib.Core.List.{[], _∷_, _++_}
 use Rattle.criteria.specs.Words.{CR, PR, SD, PD, NE, NA, NN}
 use Rattle.criteria.specs.Change.{none, signed}
 use Rattle.endpoints.specs.Values.{CENSORED, event, noDuration, forDays, EVENT, Outcome}
+use Rattle.endpoints.specs.StudyRecords.{baseline}
 use Rattle.endpoints.specs.Lines.{VisitLine}
-use Rattle.text.specs.Text.{changeText, visitText, bestText, durationText, settledText, outcomeText, refusalText}
+use Rattle.endpoints.specs.Examples.{withNode}
+use Rattle.endpoints.specs.FurtherExamples.{visit43, visit85, visit127}
+use Rattle.file.specs.File as F
+use Rattle.text.specs.Text.{changeText, visitText, bestText, durationText, settledText, outcomeText, refusalText, listingText}
 
 -- V 43 PR NN PR -40.0 and V 127 PD NN PD -75.0
 abbrev firstVisit : VisitLine
@@ -15,6 +19,10 @@ firstVisit = record { day = 43; target = PR; nontarget = NN; overall = PR; chang
 
 abbrev lastVisit : VisitLine
 lastVisit = record { day = 127; target = PD; nontarget = NN; overall = PD; change = signed true 750 }
+
+-- V 85 CR NN PR -85.0
+abbrev secondVisit : VisitLine
+secondVisit = record { day = 85; target = CR; nontarget = NN; overall = PR; change = signed true 850 }
 
 abbrev otherWords : VisitLine
 otherWords = record { day = 7; target = NA; nontarget = NE; overall = SD; change = none }
@@ -45,5 +53,9 @@ pub record LinesAtTheEdges : Type 0 where
   pub downwards : changeText (signed true 5) ≡ 45 ∷ 48 ∷ 46 ∷ 53 ∷ []
   pub zero : changeText (signed false 0) ≡ 48 ∷ 46 ∷ 48 ∷ []
   pub absent : changeText none ≡ 45 ∷ []
+  -- the visits' lines in the order recorded, and behind them the outcome's; a refused file prints only R
+  pub accepted : listingText (F.accepted printedOutcome) (baseline withNode ∷ visit43 ∷ visit85 ∷ visit127 ∷ [])
+      ≡ visitText firstVisit ++ (visitText secondVisit ++ (visitText lastVisit ++ outcomeText printedOutcome))
+  pub stopped : listingText (F.refused 11 1) (baseline withNode ∷ visit43 ∷ []) ≡ refusalText 11 1
   -- R 13 0
   pub refused : refusalText 13 0 ≡ 82 ∷ 32 ∷ 49 ∷ 51 ∷ 32 ∷ 48 ∷ 10 ∷ []
