@@ -56,14 +56,13 @@ pub fn counted_after(c: CountingVisits, day: StudyDay, answer: Overall) -> Count
 {
     let first = c.first;
     let start = c.start;
-    let late = STABLE_FROM <= day.0;
     match answer {
         Overall::CR => CountingVisits {
             first: first_of(first, day),
             start: first_of(start, day),
             cr: far_after(start, day) | c.cr,
             pr: far_after(first, day) | c.pr,
-            sd: late | c.sd,
+            sd: (STABLE_FROM <= day.0) | c.sd,
             pd: c.pd,
         },
         Overall::PR => CountingVisits {
@@ -71,7 +70,7 @@ pub fn counted_after(c: CountingVisits, day: StudyDay, answer: Overall) -> Count
             start: MaybeDay::Absent,
             cr: c.cr,
             pr: far_after(first, day) | c.pr,
-            sd: late | c.sd,
+            sd: (STABLE_FROM <= day.0) | c.sd,
             pd: c.pd,
         },
         Overall::SD => CountingVisits {
@@ -79,7 +78,7 @@ pub fn counted_after(c: CountingVisits, day: StudyDay, answer: Overall) -> Count
             start: MaybeDay::Absent,
             cr: c.cr,
             pr: c.pr,
-            sd: late | c.sd,
+            sd: (STABLE_FROM <= day.0) | c.sd,
             pd: c.pd,
         },
         Overall::PD => CountingVisits {

@@ -8,6 +8,7 @@ use native.Mathlib.Omega.{arith}
 use lib.Dec.{leb, ltb, eqb}
 use borrow.Author.Tests.{ne-eqb}
 use Rattle.laws.specs.Choice.{pick}
+use Rattle.laws.proofs.Tests.{never}
 use Rattle.dates.specs.declared.Date.{Date}
 use Rattle.dates.specs.declared.StudyDay.{StudyDay}
 use Rattle.dates.specs.declared.StudyDayAnswer.{StudyDayAnswer}
@@ -155,39 +156,50 @@ module _ (dead early misfit d : Bool) (dq : d ≡ dead) where
   pub none-behind : d ≡ false → early ≡ false → misfit ≡ false → 0 ≡ refusalBy dead early misfit
   none-behind h k m = rw (← dq, h, k, m)
 
--- from the tests of one place to what is promised there
-module _ {s next : Subject} {lines : List VisitLine} (refusal n : ℕ) (a : AddAnswer) (x : PlaceResult) (nq : n ≡ addNumber a) (aq : addNumber a ≡ refusal) where
-  stopped : (n ≡ 0 → ⊥) → (x .added .answer ≡ a) × (x .added .subject ≡ s) × (x .visit ≡ J.Absent) → Behind s next lines refusal x
-  stopped z q = behind-refused refusal a (n - 1) (sym nq ∙ more) (sym aq ∙ sym nq ∙ more) q
+some-refusal : (dead early misfit : Bool) → ((dead || early) || misfit) ≡ true → refusalBy dead early misfit ≡ suc (refusalBy dead early misfit - 1)
+some-refusal true early misfit t = refl
+some-refusal false true misfit t = refl
+some-refusal false false true t = refl
+some-refusal false false false t = absurd (never (sym t))
+
+no-refusal : (dead early misfit : Bool) → ((dead || early) || misfit) ≡ false → refusalBy dead early misfit ≡ 0
+no-refusal true early misfit t = absurd (never t)
+no-refusal false true misfit t = absurd (never t)
+no-refusal false false true t = absurd (never t)
+no-refusal false false false t = refl
+
+-- a visit: one test of the three
+module _ (s : Subject) (day : StudyDay) (v : VisitEntry) (marks : List Bool) (sizes : List ℕ) (x : PlaceResult) (dead fit : Bool)
+    (dq : dead ≡ isRecorded (dayValue (s .death))) (fq : fit ≡ fitsBy (s .baseline .count) (s .nontarget) (v .status) marks) where
+  abbrev early : Bool
+  early = leb (day .0) (s .latest .0)
+
+  refusal-of-visit : refusalBy dead early (not fit) ≡ refusalOn s day (E.Visit v) marks
+  unfolding refusalOn
+  refusal-of-visit = rw (dq, fq)
+
+  pub visit-refused : (a : AddAnswer) → ((dead || early) || not fit) ≡ true →
+      addNumber a ≡ refusalBy (isRecorded (dayValue (s .death))) early (not fit) →
+      (x .added .answer ≡ a) × (x .added .subject ≡ s) × (x .visit ≡ J.Absent) → PlacesEntry s day (E.Visit v) marks sizes x
+  visit-refused a t aq q =
+      let some : refusalBy dead early (not fit) ≡ suc (refusalBy dead early (not fit) - 1) = some-refusal dead early (not fit) t in
+      behind-refused _ a _ (aq ∙ rw (← dq) some) (sym refusal-of-visit ∙ some) q
+
+  pub visit-placed : ((dead || early) || not fit) ≡ false → Advanced (visitAdded s day v marks sizes) (lineOn s day v marks sizes ∷ []) x →
+      PlacesEntry s day (E.Visit v) marks sizes x
+  visit-placed t w = behind-done _ (sym refusal-of-visit ∙ no-refusal dead early (not fit) t) w
+
+-- a therapy or a death
+module _ (s : Subject) (day : StudyDay) (a : AddAnswer) (n : ℕ) (x : PlaceResult) (nq : n ≡ addNumber a) (next : Subject)
+    (aq : addNumber a ≡ refusalBy (isRecorded (dayValue (s .death))) (ltb (day .0) (s .latest .0)) false) where
+  pub later-refused : (n ≡ 0 → ⊥) → (x .added .answer ≡ a) × (x .added .subject ≡ s) × (x .visit ≡ J.Absent) → PlacesLater s day next x
+  later-refused z q = behind-refused _ a (n - 1) (sym nq ∙ more) (sym aq ∙ sym nq ∙ more) q
     where
       more : n ≡ suc (n - 1)
       more = omega arith
 
-  went-on : n ≡ 0 → Advanced next lines x → Behind s next lines refusal x
-  went-on z w = behind-done refusal (sym aq ∙ sym nq ∙ z) w
-
-module _ (s : Subject) (day : StudyDay) (a : AddAnswer) (n : ℕ) (x : PlaceResult) (nq : n ≡ addNumber a) where
-  abbrev Stays : Type 0
-  Stays = (x .added .answer ≡ a) × (x .added .subject ≡ s) × (x .visit ≡ J.Absent)
-
-  module _ (v : VisitEntry) (marks : List Bool) (sizes : List ℕ) (fit : Bool) (fq : fit ≡ fitsBy (s .baseline .count) (s .nontarget) (v .status) marks)
-      (aq : addNumber a ≡ refusalBy (isRecorded (dayValue (s .death))) (leb (day .0) (s .latest .0)) (not fit)) where
-    refusal-of-visit : addNumber a ≡ refusalOn s day (E.Visit v) marks
-    unfolding refusalOn
-    refusal-of-visit = rw fq at aq
-
-    pub visit-refused : (n ≡ 0 → ⊥) → Stays → PlacesEntry s day (E.Visit v) marks sizes x
-    visit-refused z q = stopped (refusalOn s day (E.Visit v) marks) n a x nq refusal-of-visit z q
-
-    pub visit-placed : n ≡ 0 → Advanced (visitAdded s day v marks sizes) (lineOn s day v marks sizes ∷ []) x → PlacesEntry s day (E.Visit v) marks sizes x
-    visit-placed z w = went-on (refusalOn s day (E.Visit v) marks) n a x nq refusal-of-visit z w
-
-  module _ (next : Subject) (aq : addNumber a ≡ refusalBy (isRecorded (dayValue (s .death))) (ltb (day .0) (s .latest .0)) false) where
-    pub later-refused : (n ≡ 0 → ⊥) → Stays → PlacesLater s day next x
-    later-refused z q = stopped _ n a x nq aq z q
-
-    pub later-placed : n ≡ 0 → (made : Subject) → made ≡ next → Advanced made [] x → PlacesLater s day next x
-    later-placed z made e w = went-on _ n a x nq aq z (rw e at w)
+  pub later-placed : n ≡ 0 → (made : Subject) → made ≡ next → Advanced made [] x → PlacesLater s day next x
+  later-placed z made e w = behind-done _ (sym aq ∙ sym nq ∙ z) (rw e at w)
 
 -- by the record's kind
 module _ (s : Subject) (day : StudyDay) (e : Entry) (marks : List Bool) (sizes : List ℕ) (x : PlaceResult) where

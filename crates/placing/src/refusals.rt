@@ -80,6 +80,7 @@ fn refusal_behind(s: Subject, early: bool, misfit: bool) -> AddAnswer
     AddAnswer::Done
 }
 
+// One test passes most visits; which number meets is asked of the others.
 fn place_visit(
     s: Subject,
     day: StudyDay,
@@ -90,10 +91,11 @@ fn place_visit(
     ensures { λ x. ⌜ PlacesEntry s day (E.Visit v) measured sizes x ⌝ }
 {
     let status = v.status;
+    let death = s.death;
+    let early = day.0 <= s.latest.0;
     let fit = fits(s.baseline.count, s.nontarget, status, measured);
-    let refusal = refusal_behind(s, day.0 <= s.latest.0, !fit);
-    if add_number(refusal) != 0 {
-        return refused(s, refusal);
+    if is_recorded(death) | early | !fit {
+        return refused(s, refusal_behind(s, early, !fit));
     }
     visited(s, day, v, measured, sizes)
 }

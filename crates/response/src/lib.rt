@@ -53,8 +53,8 @@ pub fn judge_visit(
     ensures { λ r. ⌜ JudgesVisit baseline earlier entry measured sizes r ⌝ }
 {
     let status = entry.status;
-    let complete = sums::all_measured(baseline.count, measured);
     let sum = sums::measured_sum(measured, sizes);
+    let complete = sums::all_measured(baseline.count, measured);
     let target = targets::target_answer(baseline, earlier, complete, sum, sizes);
     let overall = grid::overall_answer(baseline.assessed, entry.newlesion, target, status);
     let change = change::change_from_baseline(baseline, complete, sum);

@@ -15,9 +15,9 @@ judge-visit-spec =
     (λ c κs. search needs)
     (λ c κs. search needs)
     (λ c.
-    let summed = c .before .before .before .before in
-    let me = summed .before .all-measured .ensures in
-    let se = summed .measured-sum .ensures in
+    let looked = c .before .before .before .before in
+    let se = looked .before .measured-sum .ensures in
+    let me = looked .all-measured .ensures in
     let t = c .before .before .before .target-answer .ensures _ me se in
     record {
       target = t;
