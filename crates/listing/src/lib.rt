@@ -58,8 +58,8 @@ fn judge_into(bytes: &[u8], page: &mut [u8]) -> JudgedLines
         }
         let visit = taken.visit;
         let next = taken.subject;
-        at = visits::put_lines(page, at, visit);
         subject = next;
+        at = visits::put_lines(page, at, visit);
         k += 1;
     }
     let answer = file::end_file(subject, k - 1);

@@ -1,7 +1,7 @@
 -- What the code answers, from what it found: `search` finds the premises by itself.
 -- Assumes nothing.
 use mathlib.Core.Path.{_≡_, refl, sym, _∙_, ap}
-use mathlib.Core.Bool.{Bool, true, false, not, _&&_, _||_}
+use mathlib.Core.Bool.{Bool, true, false, not, _&&_, _||_, Bool·beq}
 use mathlib.Core.List.{List, [], _∷_}
 use Prim.Native.Nat.{ℕ, suc, _-_}
 use native.Mathlib.Omega.{arith}
@@ -62,15 +62,13 @@ module _ (s : Status) where
 
 -- ---- whether a visit fits
 
-module _ (count : ℕ) (nontarget : Bool) (s : Status) (measured : List Bool) (x y : Bool)
-    (xq : x ≡ measuredBeyond count measured) (yq : y ≡ eqb (statusNumber s) 0) where
-  pub fits-nontarget : nontarget ≡ true → (not x && not y) ≡ fitsBy count nontarget s measured
-  unfolding fitsBy
-  fits-nontarget q = rw (q, ← xq, ← yq)
-
-  pub fits-no-nontarget : nontarget ≡ false → (not x && y) ≡ fitsBy count nontarget s measured
-  unfolding fitsBy
-  fits-no-nontarget q = rw (q, ← xq, ← yq)
+pub fits-by : (count : ℕ) (nontarget : Bool) (s : Status) (measured : List Bool) (x y : Bool) → x ≡ measuredBeyond count measured →
+    y ≡ eqb (statusNumber s) 0 → (not x && not (Bool·beq nontarget y)) ≡ fitsBy count nontarget s measured
+unfolding fitsBy
+fits-by count true s measured x true xq yq = rw (← xq, ← yq)
+fits-by count true s measured x false xq yq = rw (← xq, ← yq)
+fits-by count false s measured x true xq yq = rw (← xq, ← yq)
+fits-by count false s measured x false xq yq = rw (← xq, ← yq)
 
 -- ---- the subject after a record
 

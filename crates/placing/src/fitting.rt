@@ -50,9 +50,5 @@ pub(crate) fn fits(count: u8, nontarget: bool, status: Status, measured: [bool; 
 {
     let beyond = measured_beyond(count, measured);
     let na = is_na(status);
-    if nontarget {
-        !beyond & !na
-    } else {
-        !beyond & na
-    }
+    !beyond & (nontarget != na)
 }

@@ -1,7 +1,7 @@
 -- `placing::fitting::fits` meets its contract.
 -- Assumes nothing.
 use borrow.Author.Needs.{needs}
-use Rattle.placing.proofs.Returns.{fits-nontarget, fits-no-nontarget}
+use Rattle.placing.proofs.Returns.{fits-by}
 use Rattle.placing.proofs.fitting.fits.Statement.{statement}
 use Rattle.placing.proofs.fitting.fits.Tie as tie
 
@@ -11,5 +11,4 @@ fits-spec =
     (tie.spec
     (λ c κs. search needs)
     (λ c κs. search needs)
-    (λ c. search fits-nontarget)
-    (λ c. search fits-no-nontarget))
+    (λ c. search fits-by))
