@@ -36,6 +36,7 @@ unlawful =
       earlyTherapy = refl;
       earlyDeath = refl;
       visitOnLatest = refl;
+      visitOnEarlierLatest = refl;
       visitOnDay1 = refl;
       beyondCount = refl;
       fifthBeyondCount = refl;
@@ -68,6 +69,7 @@ unfolding dateExists daysInMonth leapYear daysOfYears daysOfMonths dayNumber stu
 on-study-days =
     record {
       eachKind = refl;
+      withoutLesions = refl;
     }
 
 pub first-refusals : FirstRefusals

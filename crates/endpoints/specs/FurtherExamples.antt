@@ -113,6 +113,9 @@ further =
     -- a duration that is censored
     ∷ example oneTarget (measuring 43 0 ∷ measuring 50 0 ∷ measuring 71 0 ∷ []) (CR ∷ CR ∷ CR ∷ []) durationOfList
     (durationIs (forDays CENSORED 29))
+    -- where there is no duration it is settled with best response, and where there is one with PFS
+    ∷ example oneTarget (measuring 43 90 ∷ therapy 50 ∷ []) (SD ∷ []) durationSettledOfList (is true)
+    ∷ example oneTarget (measuring 43 60 ∷ measuring 85 60 ∷ therapy 90 ∷ []) (PR ∷ PR ∷ []) durationSettledOfList (is false)
     -- baseline missing: every visit is NE, new lesion or not
     ∷ example missing (visitOn 43 S.NA true [] ∷ death 92 ∷ []) (NE ∷ []) pfsOfList (pfsIs (event 92))
     ∷ example missing (visitOn 43 S.NA true [] ∷ unmeasured 85 ∷ []) (NE ∷ NE ∷ []) bestOfList (bestIs NE)
