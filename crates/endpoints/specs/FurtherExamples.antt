@@ -2,8 +2,9 @@
 -- one does not; proved in proofs/AtTheEdges.antt.
 -- Assumes nothing.
 use mathlib.Core.Path.{_≡_}
-use mathlib.Core.Bool.{true, false}
+use mathlib.Core.Bool.{Bool, true, false}
 use mathlib.Core.List.{List, [], _∷_, reverse}
+use Prim.Native.Nat.{ℕ}
 use Rattle.records.specs.declared.Status.the-variants as S
 use Rattle.records.specs.Examples.{filled}
 use Rattle.criteria.specs.Words.{CR, PR, SD, PD, NE, NN}
@@ -35,13 +36,16 @@ pub record PrintedLines : Type 0 where
       ∷ record { day = 127; target = PD; nontarget = NN; overall = PD; change = signed true 750 }
       ∷ []
 
--- five sizes of at most 500, none of them unmeasured, in every record
+abbrev visitWith : List Bool → List ℕ → StudyRecord
+visitWith measured sizes = visit 43 (record { status = S.NA; newLesion = false; measured = measured; sizes = sizes })
+
+-- what 4 and 5 leave of the records of a run: five marks and five sizes of at most 500, 0 where a target is not measured
 pub record FieldsThatPass : Type 0 where
   pub largest : fieldsPass (measuring 43 500) ≡ true
   pub tooLarge : fieldsPass (measuring 43 501) ≡ false
-  pub sizeUnmeasured : fieldsPass (visit 43 (record { status = S.NA; newLesion = false; measured = filled false 5 []; sizes = filled 0 5 (1 ∷ []) })) ≡ false
-  pub fourSizes : fieldsPass (visit 43 (record { status = S.NA; newLesion = false; measured = filled false 5 []; sizes = filled 0 4 [] })) ≡ false
-  pub fourMarks : fieldsPass (visit 43 (record { status = S.NA; newLesion = false; measured = filled false 4 []; sizes = filled 0 5 [] })) ≡ false
+  pub sizeUnmeasured : fieldsPass (visitWith (filled false 5 []) (filled 0 5 (1 ∷ []))) ≡ false
+  pub fourSizes : fieldsPass (visitWith (filled false 5 []) (filled 0 4 [])) ≡ false
+  pub fourMarks : fieldsPass (visitWith (filled false 4 []) (filled 0 5 [])) ≡ false
   pub everyRecord : allPass (measuring 85 90 ∷ measuring 43 501 ∷ []) ≡ false
 
 unfoldable pub further : List Example
