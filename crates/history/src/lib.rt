@@ -9,11 +9,6 @@ ghost use Rattle.history.specs.Replay.{recordsIn, Replayed};
 mod print; // print.rt: answers on standard output
 mod replay; // replay.rt: the calls that a byte string makes
 
-pub use print::print_added;
-pub use print::print_opened;
-pub use print::print_read;
-pub use print::print_written;
-
 const LONG_LISTING: usize = 1000;
 
 // Of a long listing only how many bytes it has, its first line of 24 bytes, and the last one with the four of the outcome.

@@ -1,6 +1,4 @@
 // Answers on standard output: their numbers, chosen by the names of their cases, and the outcome in the lines of the listing.
-use codec::ReadAnswer;
-use codec::WriteAnswer;
 use endpoints::BestResponse;
 use endpoints::DurationAnswer;
 use endpoints::PfsStatus;
@@ -10,11 +8,6 @@ use opening::OpenAnswer;
 use outcome::OutcomeAnswer;
 use outcome::OutcomeResult;
 use placing::AddAnswer;
-ghost use mathlib.Core.Path.{_≡_};
-ghost use Rattle.codec.specs.Reading.{readNumber};
-ghost use Rattle.codec.specs.Writing.{writeNumber};
-ghost use Rattle.opening.specs.Opening.{openNumber};
-ghost use Rattle.placing.specs.Refusals.{addNumber};
 
 pub(crate) fn text(line: &[u8]) {
     io::write_all(libc::STDOUT_FILENO, line);
@@ -24,69 +17,22 @@ pub(crate) fn number(n: u64) {
     io::print_decimal(libc::STDOUT_FILENO, n);
 }
 
-// Printed, and answered.
-fn told_number(n: u8) -> u8
-    ensures { λ r. ⌜ r ≡ n ⌝ }
-{
-    number(n as u64);
-    n
-}
-
-pub fn print_read(answer: ReadAnswer) -> u8
-    ensures { λ r. ⌜ r ≡ readNumber answer ⌝ }
-{
-    match answer {
-        ReadAnswer::Done => told_number(0),
-        ReadAnswer::NotElevenBytes => told_number(1),
-        ReadAnswer::NoSuchKind => told_number(2),
-        ReadAnswer::NoSuchDate => told_number(3),
-        ReadAnswer::OutsideLimits => told_number(4),
-        ReadAnswer::NotZero => told_number(5),
-    }
-}
-
-pub fn print_written(answer: WriteAnswer) -> u8
-    ensures { λ r. ⌜ r ≡ writeNumber answer ⌝ }
-{
-    match answer {
-        WriteAnswer::Done => told_number(0),
-        WriteAnswer::NoSuchDate => told_number(3),
-        WriteAnswer::OutsideLimits => told_number(4),
-        WriteAnswer::NotZero => told_number(5),
-        WriteAnswer::ShortOutput => told_number(6),
-    }
-}
-
 // Behind an A, which starts the numbers of a history.
-pub fn print_opened(answer: OpenAnswer) -> u8
-    ensures { λ r. ⌜ r ≡ openNumber answer ⌝ }
-{
+pub(crate) fn opened(answer: OpenAnswer) {
     text(b"A ");
     match answer {
-        OpenAnswer::Done => told_number(0),
-        OpenAnswer::NoSuchDate => told_number(3),
-        OpenAnswer::OutsideLimits => told_number(4),
-        OpenAnswer::NotZero => told_number(5),
-        OpenAnswer::NotBaseline => told_number(7),
+        OpenAnswer::Done => text(b"0"),
+        OpenAnswer::NoSuchDate => text(b"3"),
+        OpenAnswer::OutsideLimits => text(b"4"),
+        OpenAnswer::NotZero => text(b"5"),
+        OpenAnswer::NotBaseline => text(b"7"),
     }
 }
 
 // Behind a space.
-pub fn print_added(answer: AddAnswer) -> u8
-    ensures { λ r. ⌜ r ≡ addNumber answer ⌝ }
-{
+pub(crate) fn added(answer: AddAnswer) {
     text(b" ");
-    match answer {
-        AddAnswer::Done => told_number(0),
-        AddAnswer::NoSuchDate => told_number(3),
-        AddAnswer::OutsideLimits => told_number(4),
-        AddAnswer::NotZero => told_number(5),
-        AddAnswer::SecondBaseline => told_number(8),
-        AddAnswer::AfterDeath => told_number(9),
-        AddAnswer::TooEarly => told_number(10),
-        AddAnswer::Misfit => told_number(11),
-        AddAnswer::OutOfRange => told_number(12),
-    }
+    number(placing::add_number(answer) as u64);
 }
 
 fn status(s: PfsStatus) {

@@ -25,7 +25,7 @@ pub(crate) fn replay(bytes: &[u8]) -> OutcomeAnswer
     }
     let opened = opening::open_subject(record_in(&bytes[0..11]));
     let first = opened.answer;
-    print::print_opened(first);
+    print::opened(first);
     let mut subject = opened.subject;
     let mut k: usize = 1;
     while k < count {
@@ -34,7 +34,7 @@ pub(crate) fn replay(bytes: &[u8]) -> OutcomeAnswer
         k += 1;
         let addition = outcome::added(subject, record_in(&bytes[from..to]));
         let answer = addition.answer;
-        print::print_added(answer);
+        print::added(answer);
         let next = addition.subject;
         let _between = outcome::read_outcome(next);
         subject = next;

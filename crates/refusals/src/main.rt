@@ -1,5 +1,7 @@
 // Where a call stops (document 01): each refusal, the orders in which they are judged, and the longest file. The file `stdout`, to which what is printed
 // is held, is worked out by hand from document 01.
+use codec::ReadAnswer;
+use codec::WriteAnswer;
 use dates::StudyDay;
 use endpoints::MaybeDay;
 use file::FileAnswer;
@@ -7,6 +9,8 @@ use file::FileRefusal;
 use held::CountingVisits;
 use held::EventDays;
 use held::Subject;
+use opening::OpenAnswer;
+use placing::AddAnswer;
 use records::Record;
 
 fn text(line: &[u8]) {
@@ -123,6 +127,42 @@ fn lengths() {
     history::listed(b"44,000 bytes\n", &zeros[..44000]);
 }
 
+fn print_read(answer: ReadAnswer) {
+    match answer {
+        ReadAnswer::Done => text(b"0\n"),
+        ReadAnswer::NotElevenBytes => text(b"1\n"),
+        ReadAnswer::NoSuchKind => text(b"2\n"),
+        ReadAnswer::NoSuchDate => text(b"3\n"),
+        ReadAnswer::OutsideLimits => text(b"4\n"),
+        ReadAnswer::NotZero => text(b"5\n"),
+    }
+}
+
+fn print_written(answer: WriteAnswer) {
+    match answer {
+        WriteAnswer::Done => text(b"0\n"),
+        WriteAnswer::NoSuchDate => text(b"3\n"),
+        WriteAnswer::OutsideLimits => text(b"4\n"),
+        WriteAnswer::NotZero => text(b"5\n"),
+        WriteAnswer::ShortOutput => text(b"6\n"),
+    }
+}
+
+fn print_opened(answer: OpenAnswer) {
+    match answer {
+        OpenAnswer::Done => text(b"A 0"),
+        OpenAnswer::NoSuchDate => text(b"A 3"),
+        OpenAnswer::OutsideLimits => text(b"A 4"),
+        OpenAnswer::NotZero => text(b"A 5"),
+        OpenAnswer::NotBaseline => text(b"A 7"),
+    }
+}
+
+fn print_added(answer: AddAnswer) {
+    text(b" ");
+    io::print_decimal(libc::STDOUT_FILENO, placing::add_number(answer) as u64);
+}
+
 // 1 and 6 meet no file.
 fn bytes_of_one() {
     let baseline = codec::read(b"\x2F\xC8\x21\xD0\x28\x82\x80\x00\x00\x00\x00");
@@ -130,13 +170,11 @@ fn bytes_of_one() {
     let short = codec::read(b"\x2F\xC8\x21\xD0\x28\x82\x80\x00\x00\x00");
     let unread = short.answer;
     text(b"ten bytes read\n");
-    history::print_read(unread);
-    text(b"\n");
+    print_read(unread);
     let mut out = [0u8; 10];
     let unwritten = codec::write(found, &mut out);
     text(b"into ten bytes written\n");
-    history::print_written(unwritten);
-    text(b"\n");
+    print_written(unwritten);
 }
 
 // What opening, adding, adding to a subject out of range, and writing into ten bytes answer for a record that 4 or 5 meets.
@@ -145,18 +183,17 @@ fn own_refusal(name: &[u8], r: Record, held: Subject) {
     let opened = opening::open_subject(r);
     let unopened = opened.answer;
     let blank = opened.subject;
-    history::print_opened(unopened);
+    print_opened(unopened);
     let added = outcome::added(held, r);
     let unadded = added.answer;
-    history::print_added(unadded);
+    print_added(unadded);
     let outside = outcome::added(blank, r);
     let unjudged = outside.answer;
-    history::print_added(unjudged);
+    print_added(unjudged);
     text(b"\n");
     let mut out = [0u8; 10];
     let unwritten = codec::write(r, &mut out);
-    history::print_written(unwritten);
-    text(b"\n");
+    print_written(unwritten);
 }
 
 // The baseline of the printed example, and that baseline with a size of 501, and with a size beyond the count.
