@@ -1,8 +1,10 @@
 pub mod AtTheEdges
 pub mod Window
+pub mod Visits
 pub mod Returns
 pub mod Parts
 pub mod ReadBack
 pub mod Found
 pub mod WrittenBack
+pub mod FoundVisits
 pub mod RoundTrip

@@ -51,31 +51,7 @@ judged-passed w a r e f p =
     let q : refusalOfRaw w ≡ 0 = sym e ∙ ap checkNumber p in
     record { answer = sym q; found = rw q f }
 
--- ---- judging a visit
-
-module _ (n : ℕ) (w : Raw) (we : w ≡ visitIn n) (d : Date) (de : d ≡ dateOf (w .read .entry)) (b : Bool) (be : b ≡ dateExists d) where
-  pub visit-no-date : not b ≡ true → (x : ReadResult) → (x .answer ≡ R.NoSuchDate) × (x .found ≡ blank) → JudgesRead (visitIn n) x
-  unfolding refusalOfRead
-  visit-no-date h x q =
-      let r : 3 ≡ refusalOfRaw w = rw (← de, ← be, h) in
-      rw (← we) (judged-no-date w C.NoSuchDate x r refl q)
-
-  module _ (h : not b ≡ false) (a : CheckAnswer)
-      (ae : (v : VisitEntry) → checkNumber a ≡ firstOwn false (either (w .badstatus) (outsideLimits (E.Visit v) (w .read .marks) (w .read .sizes))) (either (w .spare) (notZero (E.Visit v) (w .read .marks) (w .read .sizes)))) where
-    visit-refusal : checkNumber a ≡ refusalOfRaw w
-    unfolding refusalOfRead visitIn
-    visit-refusal =
-        let e : w .read .entry ≡ E.Visit _ = ap (λ (r : Raw). r .read .entry) we in
-        rw (← de, ← be, h, e) (ae _)
-
-    pub visit-judged : (x : ReadResult) → ((u : Raw) → checkNumber a ≡ refusalOfRaw u → w .read ≡ u .read → JudgesRead u x) → JudgesRead (visitIn n) x
-    visit-judged x j = rw (← we) (j w visit-refusal refl)
-
 -- ---- reading
-
-visit-raw : (kind n : ℕ) → kind ≡ 2 → visitIn n ≡ rawIn kind n
-unfolding rawIn
-visit-raw kind n e = rw e
 
 module _ (s : List ℕ) (x : ReadResult) (b : AreBytes s) where
   reads-refused : (n : ℕ) → refusalOfBytes s ≡ suc n → readNumber (x .answer) ≡ suc n → x .found ≡ blank → Reads s x
@@ -97,9 +73,6 @@ module _ (s : List ℕ) (x : ReadResult) (b : AreBytes s) where
       reads-judged h w we j =
           let q : refusalOfBytes s ≡ refusalOfRaw w = rw (eq-eqb (length s) recordLength l, ← ke, ← known-e, h, we) in
           record { answer = j .answer ∙ sym q; found = j .found ∙ rw (q, ← ke, we); octets = b }
-
-    pub reads-visit : kind ≡ 2 → JudgesRead (visitIn (bytesNumber s)) x → Reads s x
-    reads-visit e = reads-judged true (rw e) refl (visitIn (bytesNumber s)) (visit-raw kind (bytesNumber s) e)
 
 -- ---- writing
 

@@ -80,12 +80,12 @@ number-again n w h a =
     ∙ pack-unpack (layoutOf (w .read .entry)) n (rw (layout-total (w .read .entry)) h)
 
 -- a number that no refusal meets: its kind, and what is read of it
-record Fine (n : ℕ) : Type 0 where
-  low : 1 ≤ kindIn n
-  high : kindIn n ≤ 4
-  passed : Passes (rawIn (kindIn n) n .read) (rawIn (kindIn n) n .badstatus) (rawIn (kindIn n) n .spare)
+pub record Fine (n : ℕ) : Type 0 where
+  pub low : 1 ≤ kindIn n
+  pub high : kindIn n ≤ 4
+  pub passed : Passes (rawIn (kindIn n) n .read) (rawIn (kindIn n) n .badstatus) (rawIn (kindIn n) n .spare)
 
-fine : (n : ℕ) → refusalOfNumber n ≡ 0 → Fine n
+pub fine : (n : ℕ) → refusalOfNumber n ≡ 0 → Fine n
 unfolding refusalOfNumber
 fine n e = go (leb 1 (kindIn n)) refl (leb (kindIn n) 4) refl
   where
@@ -97,7 +97,7 @@ fine n e = go (leb 1 (kindIn n)) refl (leb (kindIn n) 4) refl
     go false p b q = absurd (let z : _≡_ {A = ℕ} 2 0 = rw p at e in let w : ⊥ = omega arith in w)
 
 module _ (s : List ℕ) (b : AreBytes s) (e : refusalOfBytes s ≡ 0) where
-  eleven : length s ≡ recordLength
+  pub eleven : length s ≡ recordLength
   unfolding refusalOfBytes
   eleven = go (eqb (length s) recordLength) refl
     where
@@ -108,7 +108,7 @@ module _ (s : List ℕ) (b : AreBytes s) (e : refusalOfBytes s ≡ 0) where
   fit : Fit (bytes recordLength) s
   fit = rw eleven at (bytes-fit s b)
 
-  no-refusal : refusalOfNumber (bytesNumber s) ≡ 0
+  pub no-refusal : refusalOfNumber (bytesNumber s) ≡ 0
   unfolding refusalOfBytes
   no-refusal = rw (eq-eqb (length s) recordLength eleven) at e
 

@@ -14,6 +14,7 @@ use Rattle.records.specs.declared.Entry.{Entry}
 use Rattle.records.specs.declared.Entry.the-variants.{Baseline, Visit, Therapy, Death}
 use Rattle.records.specs.declared.Status.{Status}
 use Rattle.records.specs.declared.Status.the-variants.{NA, CR, NN, PD, NE}
+use Rattle.records.specs.declared.VisitEntry.{VisitEntry}
 use Rattle.records.specs.declared.Record.{Record}
 use Rattle.codec.specs.Bytes.{recordLength, baselineLayout, visitLayout, spareLayout, bytesNumber}
 use Rattle.codec.specs.declared.Raw.{Raw}
@@ -63,10 +64,13 @@ baselineFrom f = record {
   spare = ltb 0 (getD f 17 0);
 }
 
+abbrev pub visitEntryFrom : List ℕ → VisitEntry
+visitEntryFrom f = record { date = dateFrom f; status = statusFrom (getD f 4 0); newlesion = isOne (getD f 5 0) }
+
 abbrev pub visitFrom : List ℕ → Raw
 visitFrom f = record {
   read = record {
-    entry = Visit (record { date = dateFrom f; status = statusFrom (getD f 4 0); newlesion = isOne (getD f 5 0) });
+    entry = Visit (visitEntryFrom f);
     sizes = sizesFrom (drop 6 f);
     marks = marksFrom (drop 6 f);
   };

@@ -1,6 +1,8 @@
 // Bytes to what stands in them, before it is judged.
 use super::fields::field;
 use crate::Raw;
+use crate::VisitHead;
+use crate::VisitTarget;
 use dates::Date;
 use records::BaselineEntry;
 use records::Entry;
@@ -8,11 +10,13 @@ use records::Record;
 use records::Status;
 use records::VisitEntry;
 ghost use mathlib.Core.Path.{_≡_};
+ghost use mathlib.Core.Bool.{true, false};
 ghost use Prim.Native.Nat.{_+_, _*_, _≤_, _%_, _^_};
 ghost use lib.Dec.{ltb};
 ghost use lib.ListN.{length};
 ghost use Rattle.codec.specs.Bytes.{recordLength, bytesNumber};
 ghost use Rattle.codec.specs.Fields.{fieldAt, marksAt, sizesAt};
+ghost use Rattle.codec.specs.Visits.{visitEntryIn, isVisitIn, IsTarget, ReadsTarget};
 ghost use Rattle.codec.specs.Reading.{isOne, dateIn, statusFrom, untargeted, blank, baselineIn, visitIn, spareIn, rawIn};
 
 // The bit at which each field starts; kind is at 0.
@@ -39,6 +43,9 @@ const NEW_LESION: u32 = 27;
 const VISIT_TARGETS: u32 = 28;
 
 const VISIT_SPARE: u32 = 83;
+
+// What a target's mark is worth above its size.
+const MARK: u16 = 1024;
 
 fn date_in(s: &[u8]) -> Date
     requires { ⌜ length (now s) ≡ recordLength ⌝ }
@@ -118,6 +125,65 @@ fn baseline_in(s: &[u8]) -> Raw
         read: read,
         badstatus: false,
         spare: 0 < field(s, BASELINE_SPARE, 4),
+    }
+}
+
+// What a visit has before its targets.
+pub(crate) fn head_in(s: &[u8]) -> VisitHead
+    requires { ⌜ length (now s) ≡ recordLength ⌝ }
+    ensures { λ x. ⌜ (x .isvisit ≡ isVisitIn (bytesNumber (now (s .entry)))) × (x .entry ≡ visitEntryIn (bytesNumber (now (s .entry)))) ⌝ }
+{
+    let kind = field(s, 0, 3);
+    let number = field(s, STATUS, 3);
+    let date = date_in(s);
+    let status = status_from(number);
+    let newlesion = bit_at(s, NEW_LESION);
+    let spare = field(s, VISIT_SPARE, 5);
+    let entry = VisitEntry {
+        date: date,
+        status: status,
+        newlesion: newlesion,
+    };
+    VisitHead {
+        isvisit: (kind == 2) & ((number <= 4) & (spare == 0)),
+        entry: entry,
+    }
+}
+
+pub(crate) fn no_target() -> VisitTarget
+    ensures { λ x. ⌜ (x .measured ≡ false) × (x .size ≡ 0) × (x .clear ≡ true) ⌝ }
+{
+    VisitTarget {
+        measured: false,
+        size: 0,
+        clear: true,
+    }
+}
+
+// The mark and the size that start at a bit, read together.
+fn target_at(s: &[u8], at: u32) -> VisitTarget
+    requires { ⌜ (length (now s) ≡ recordLength) × (at + 11 ≤ 8 * recordLength) ⌝ }
+    ensures { λ x. ⌜ IsTarget (isOne (fieldAt (now (s .entry)) at 1)) (fieldAt (now (s .entry)) (at + 1) 10) x ⌝ }
+{
+    let pair = field(s, at, 11);
+    VisitTarget {
+        measured: MARK <= pair,
+        size: pair % MARK,
+        clear: pair == 0,
+    }
+}
+
+pub(crate) fn target_in(s: &[u8], i: u8) -> VisitTarget
+    requires { ⌜ length (now s) ≡ recordLength ⌝ }
+    ensures { λ x. ⌜ ReadsTarget (now (s .entry)) i x ⌝ }
+{
+    match i {
+        0 => target_at(s, VISIT_TARGETS),
+        1 => target_at(s, VISIT_TARGETS + 11),
+        2 => target_at(s, VISIT_TARGETS + 22),
+        3 => target_at(s, VISIT_TARGETS + 33),
+        4 => target_at(s, VISIT_TARGETS + 44),
+        _ => no_target(),
     }
 }
 

@@ -1,11 +1,14 @@
 // A record as 11 bytes: read from any byte string, written into any lent output (document 01, "Where a call stops", 1 to 6).
+use dates::Date;
 use records::CheckAnswer;
 use records::Record;
+use records::Status;
+use records::VisitEntry;
 ghost use mathlib.Core.Path.{_≡_};
-ghost use lib.ListN.{length};
+ghost use mathlib.Core.Bool.{false};
 ghost use Rattle.records.specs.Refusals.{checkNumber};
-ghost use Rattle.codec.specs.Bytes.{recordLength, bytesNumber};
-ghost use Rattle.codec.specs.Reading.{isKind, visitIn, refusalOfRaw, blank, JudgesRead, Reads};
+ghost use Rattle.codec.specs.Reading.{isKind, refusalOfRaw, blank, JudgesRead, Reads};
+ghost use Rattle.codec.specs.Visits.{blankVisit, ReadsHead, ReadsTarget};
 ghost use Rattle.codec.specs.declared.Raw.{Raw};
 ghost use Rattle.codec.specs.Writing.{Writes};
 
@@ -34,6 +37,21 @@ pub enum WriteAnswer {
     OutsideLimits,
     NotZero,
     ShortOutput,
+}
+
+// What a visit has before its targets, not judged.
+pub struct VisitHead {
+    // Of kind 2, with a status that is one, and no spare bit set.
+    pub isvisit: bool,
+    pub entry: VisitEntry,
+}
+
+// One target of a visit, not judged.
+pub struct VisitTarget {
+    pub measured: bool,
+    pub size: u16,
+    // Neither measured nor with a size.
+    pub clear: bool,
 }
 
 // What is read before it is judged: a record, and what has no place in one.
@@ -100,38 +118,43 @@ pub fn read(s: &[u8]) -> ReadResult
     judged(decode::raw_in(kind, s))
 }
 
-// A visit, or the first of 3 to 5 that meets it.
-fn read_visit(s: &[u8]) -> ReadResult
-    requires { ⌜ length (now s) ≡ recordLength ⌝ }
-    ensures { λ x. ⌜ JudgesRead (visitIn (bytesNumber (now (s .entry)))) x ⌝ }
+fn no_visit() -> VisitHead
+    ensures { λ x. ⌜ (x .isvisit ≡ false) × (x .entry ≡ blankVisit) ⌝ }
 {
-    let raw = decode::visit_in(s);
-    let found = raw.read;
-    let entry = found.entry;
-    let marks = found.marks;
-    let sizes = found.sizes;
-    if !dates::date_exists(records::date_of(entry)) {
-        return refused(ReadAnswer::NoSuchDate);
+    let date = Date {
+        year: 0,
+        month: 0,
+        day: 0,
+    };
+    let entry = VisitEntry {
+        date: date,
+        status: Status::NA,
+        newlesion: false,
+    };
+    VisitHead {
+        isvisit: false,
+        entry: entry,
     }
-    let answer = records::check_visit(raw.badstatus, marks, sizes, raw.spare);
-    answered(answer, found)
 }
 
-// The same as `read`, for the later records of a file: most are visits, which are read apart from the other kinds, for speed.
-pub fn read_later(s: &[u8]) -> ReadResult
-    ensures { λ x. ⌜ Reads (now (s .entry)) x ⌝ }
+// What a visit has before its targets; its date is that of any other kind too.
+pub fn visit_head(s: &[u8]) -> VisitHead
+    ensures { λ x. ⌜ ReadsHead (now (s .entry)) x ⌝ }
 {
     if s.len() != RECORD_LENGTH {
-        return refused(ReadAnswer::NotElevenBytes);
+        return no_visit();
     }
-    let kind = fields::field(s, 0, 3);
-    if kind == 2 {
-        return read_visit(s);
+    decode::head_in(s)
+}
+
+// Target i of a visit.
+pub fn visit_target(s: &[u8], i: u8) -> VisitTarget
+    ensures { λ x. ⌜ ReadsTarget (now (s .entry)) i x ⌝ }
+{
+    if s.len() != RECORD_LENGTH {
+        return decode::no_target();
     }
-    if !is_kind(kind) {
-        return refused(ReadAnswer::NoSuchKind);
-    }
-    judged(decode::raw_in(kind, s))
+    decode::target_in(s, i)
 }
 
 pub fn write(r: Record, out: &mut [u8]) -> WriteAnswer

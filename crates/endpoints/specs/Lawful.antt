@@ -36,10 +36,11 @@ died p = isRecorded (deathDay p)
 unfoldable pub measuredBeyond : ℕ → List Bool → Bool
 measuredBeyond count measured = some (λ (i : ℕ). both (leb count i) (getD measured i false)) mostTargets
 
+abbrev pub statusFits : Bool → Status → Bool
+statusFits nontarget status = pick nontarget (not (eqb (statusNumber status) 0)) (eqb (statusNumber status) 0)
+
 unfoldable pub fitsBy : ℕ → Bool → Status → List Bool → Bool
-fitsBy count nontarget status measured =
-    both (not (measuredBeyond count measured))
-    (pick nontarget (not (eqb (statusNumber status) 0)) (eqb (statusNumber status) 0))
+fitsBy count nontarget status measured = both (not (measuredBeyond count measured)) (statusFits nontarget status)
 
 unfoldable pub fits : Baseline → Visit → Bool
 fits b v = fitsBy (b .count) (b .nontarget) (v .status) (v .measured)

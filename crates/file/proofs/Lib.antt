@@ -1,6 +1,8 @@
 pub mod AtTheEdges
 pub mod Verdicts
+pub mod Counting
 pub mod Returns
+pub mod PlainTaken
 pub mod Follows
 pub mod Loop
 pub mod Called

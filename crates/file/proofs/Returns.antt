@@ -26,7 +26,7 @@ use Rattle.opening.specs.Opening.{openNumber, openedSubject, Opened}
 use Rattle.placing.specs.declared.MaybeVisit.the-variants as J
 use Rattle.placing.specs.declared.PlaceResult.{PlaceResult}
 use Rattle.placing.specs.Lines.{visitValues}
-use Rattle.placing.specs.Refusals.{addNumber, Places}
+use Rattle.placing.specs.Refusals.{addNumber, refusalOn, PlacesOther}
 use Rattle.outcome.specs.declared.OutcomeAnswer.{OutcomeAnswer}
 use Rattle.outcome.specs.declared.OutcomeAnswer.the-variants as R
 use Rattle.outcome.specs.declared.OutcomeResult.{OutcomeResult}
@@ -35,7 +35,7 @@ use Rattle.file.specs.declared.FileAnswer.{FileAnswer}
 use Rattle.file.specs.declared.FileAnswer.the-variants as F
 use Rattle.file.specs.declared.TakenRecord.{TakenRecord}
 use Rattle.file.specs.File.{refusalOfPart, refused as stopped, accepted, isAfter, startsLate, fileValues}
-use Rattle.file.specs.Taking.{TakesFirst, Takes, verdictHeld, Ends}
+use Rattle.file.specs.Taking.{TakesFirst, TakesOther, verdictHeld, Ends}
 
 -- ---- 14
 
@@ -129,29 +129,26 @@ module _ (part : List ℕ) (x : ReadResult) (a : OpenAnswer) (s : Subject) (y : 
       let e : refusalOfBytes part ≡ 0 = sym (w .answer) ∙ sym nq ∙ z in
       takes-first m (mq ∙ v .answer ∙ ap refusalOfOpening (w .found) ∙ sym (rw (eq-eqb (refusalOfBytes part) 0 e))) q
 
--- ---- a later record
+-- ---- a later record that is no plain visit
 
-module _ (s : Subject) (part : List ℕ) (x : ReadResult) (n : ℕ) (w : Reads part x) (nq : n ≡ readNumber (x .answer)) where
-  pub later-unread : (y : TakenRecord) → (n ≡ 0 → ⊥) → (y .number ≡ n) × (y .subject ≡ s) × (y .visit ≡ J.Absent) → Takes s part y
-  later-unread y z q =
+module _ (s : Subject) (day : StudyDay) (part : List ℕ) (x : ReadResult) (n : ℕ) (y : TakenRecord) (w : Reads part x) (nq : n ≡ readNumber (x .answer)) where
+  pub other-unread : (n ≡ 0 → ⊥) → (y .number ≡ n) × (y .subject ≡ s) × (y .visit ≡ J.Absent) → TakesOther s day part y
+  other-unread z q =
       let e : n ≡ refusalOfBytes part = nq ∙ w .answer in
       let met : eqb (refusalOfBytes part) 0 ≡ false = ne-eqb (refusalOfBytes part) 0 (λ f. z (e ∙ f)) in
-      record {
-        number = q .0 ∙ e ∙ rw met;
-        left = q .1 ∙ rw (met, met);
-        shown = ap visitValues (q .2) ∙ rw (met, met);
-        octets = w .octets;
-      }
+      let told : eqb (y .number) 0 ≡ false = ne-eqb (y .number) 0 (λ f. z (sym (q .0) ∙ f)) in
+      record { number = q .0 ∙ e ∙ rw met; left = q .1 ∙ rw told; shown = ap visitValues (q .2); octets = w .octets }
 
-  pub later-placed : (p : PlaceResult) (m : ℕ) → n ≡ 0 → Places s (x .found) p → m ≡ addNumber (p .added .answer) →
-      Takes s part (record { number = m; subject = p .added .subject; visit = p .visit })
-  later-placed p m z v mq =
+  pub other-placed : (p : PlaceResult) (m : ℕ) → n ≡ 0 → PlacesOther s day (x .found .entry) (x .found .marks) p → m ≡ addNumber (p .added .answer) →
+      (y .number ≡ m) × (y .subject ≡ p .added .subject) × (y .visit ≡ J.Absent) → TakesOther s day part y
+  other-placed p m z v mq q =
       let e : refusalOfBytes part ≡ 0 = sym (w .answer) ∙ sym nq ∙ z in
-      let read : eqb (refusalOfBytes part) 0 ≡ true = eq-eqb (refusalOfBytes part) 0 e in
-      let u : Places s (recordOfBytes part) p = rw (w .found) at v in
+      let r = recordOfBytes part in
+      let u : PlacesOther s day (r .entry) (r .marks) p = rw (w .found) at v in
+      let number : y .number ≡ refusalOn s day (r .entry) (r .marks) = q .0 ∙ mq ∙ u .answer in
       record {
-        number = mq ∙ u .answer ∙ rw read;
-        left = u .left ∙ rw read;
-        shown = u .shown ∙ rw read;
+        number = number ∙ rw (eq-eqb (refusalOfBytes part) 0 e);
+        left = q .1 ∙ u .left ∙ rw (← number);
+        shown = ap visitValues (q .2);
         octets = w .octets;
       }

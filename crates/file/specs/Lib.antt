@@ -1,4 +1,5 @@
 pub mod File
+pub mod Plain
 pub mod Taking
 pub mod Singly
 pub mod Examples

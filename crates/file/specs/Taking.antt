@@ -6,6 +6,7 @@ use Prim.Native.Nat.{ℕ}
 use lib.Dec.{eqb}
 use Rattle.laws.specs.Choice.{pick}
 use Rattle.packing.specs.Layout.{AreBytes}
+use Rattle.dates.specs.declared.StudyDay.{StudyDay}
 use Rattle.records.specs.declared.Record.{Record}
 use Rattle.codec.specs.Reading.{recordOfBytes}
 use Rattle.endpoints.specs.Values.{dayValue}
@@ -15,6 +16,7 @@ use Rattle.held.specs.Range.{inRange}
 use Rattle.opening.specs.Opening.{openedSubject}
 use Rattle.placing.specs.Added.{dayOn}
 use Rattle.placing.specs.Lines.{visitValues, linesOn}
+use Rattle.placing.specs.Refusals.{refusalOn, otherAdded}
 use Rattle.outcome.specs.Promises.{refusalOnDay, addedOnDay, pfsHeld, durationHeld, outcomeOf}
 use Rattle.records.specs.Form.{Five}
 use Rattle.file.specs.declared.FileAnswer.{FileAnswer}
@@ -36,6 +38,14 @@ linesOnDay s r = linesOn s (dayOn s r) (r .entry) (r .marks) (r .sizes)
 -- 2 to 5, then 8 to 11; 0 for none
 abbrev pub refusalTaking : Subject → List ℕ → ℕ
 refusalTaking s part = afterReading part (refusalOnDay s (recordOfBytes part))
+
+-- a later record that is no plain visit, on a study day: its refusal, and the same subject, or the subject after another kind of record; no line
+pub record TakesOther (s : Subject) (day : StudyDay) (part : List ℕ) (x : TakenRecord) : Type 0 where
+  pub number : x .number ≡ afterReading part (refusalOn s day (recordOfBytes part .entry) (recordOfBytes part .marks))
+  pub left : x .subject ≡ pick (eqb (x .number) 0) (otherAdded s day (recordOfBytes part .entry)) s
+  pub shown : visitValues (x .visit) ≡ []
+  -- the type `u8` gives it
+  pub octets : AreBytes part
 
 -- a later record: its refusal, and the same subject, or the next subject and the lines
 pub record Takes (s : Subject) (part : List ℕ) (x : TakenRecord) : Type 0 where

@@ -4,10 +4,12 @@ use codec::RECORD_LENGTH;
 use held::Subject;
 use outcome::OutcomeResult;
 use placing::MaybeVisit;
+use response::Measured;
 ghost use mathlib.Core.Path.{_≡_};
 ghost use Rattle.file.specs.File.{fileValues, refused as stopped, Judges};
 
 mod numbers; // numbers.rt: the numbers of answers
+mod plain; // plain.rt: a visit that no refusal meets
 mod taking; // taking.rt: one record of a file
 mod ending; // ending.rt: behind the last record
 
@@ -35,6 +37,12 @@ pub struct TakenRecord {
     pub subject: Subject,
     // The answers at it, where it is a visit.
     pub visit: MaybeVisit,
+}
+
+// Whether a visit is one that no refusal meets, and what its sizes come to, which is told of such a visit alone.
+pub(crate) struct PlainVisit {
+    pub(crate) plain: bool,
+    pub(crate) measured: Measured,
 }
 
 pub(crate) fn refused(number: u8, index: usize) -> FileAnswer

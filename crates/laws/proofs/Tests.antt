@@ -4,8 +4,8 @@ use mathlib.Core.Path.{_≡_, refl, sym, _∙_, ap}
 use mathlib.Core.Bool.{Bool, true, false, not, Bool·not-not}
 use Prim.Native.Nat.{ℕ}
 use native.Mathlib.Omega.{arith}
-use lib.Dec.{leb, ltb}
-use borrow.Author.Tests.{lt-ltb, le-ltb, le-leb, lt-leb, eq-eqb, ne-eqb, leb-true, leb-false}
+use lib.Dec.{leb, ltb, eqb}
+use borrow.Author.Tests.{lt-ltb, le-ltb, le-leb, lt-leb, eq-eqb, ne-eqb, leb-true, leb-false, ltb-true, ltb-false}
 use Rattle.laws.specs.Choice.{both, either}
 
 pub ruleset tests = (lt-ltb, le-ltb, le-leb, lt-leb, eq-eqb, ne-eqb)
@@ -47,3 +47,10 @@ not-leb m n = go (leb m n) refl
 
 pub not-ltb : (m n : ℕ) → not (ltb m n) ≡ leb n m
 not-ltb m n = sym (ap not (not-leb n m)) ∙ Bool·not-not (leb n m)
+
+pub zero-eqb : (n : ℕ) → eqb n 0 ≡ not (ltb 0 n)
+zero-eqb n = go (ltb 0 n) refl
+  where
+    go : (x : Bool) → ltb 0 n ≡ x → eqb n 0 ≡ not x
+    go true q = let l = ltb-true 0 n q in ne-eqb n 0 (λ e. let w : ⊥ = omega arith in w)
+    go false q = let l = ltb-false 0 n q in eq-eqb n 0 (omega arith)

@@ -1,3 +1,4 @@
 pub mod Follows
 pub mod Within
+pub mod Follow
 mod Returns

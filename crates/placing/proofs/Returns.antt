@@ -25,7 +25,8 @@ use Rattle.records.specs.Form.{dateOf, statusNumber}
 use Rattle.criteria.specs.declared.Overall.{Overall}
 use Rattle.criteria.specs.Words.{statusWord, overallWord}
 use Rattle.response.specs.declared.VisitAnswer.{VisitAnswer}
-use Rattle.response.specs.Judging.{JudgesVisit}
+use Rattle.response.specs.declared.Measured.{Measured}
+use Rattle.response.specs.Judging.{Measures, JudgesVisit}
 use Rattle.endpoints.specs.Values.{isRecorded, dayValue}
 use Rattle.endpoints.specs.Lawful.{measuredBeyond, fitsBy}
 use Rattle.endpoints.specs.Lines.{VisitLine}
@@ -40,7 +41,7 @@ use Rattle.placing.specs.declared.PlaceResult.{PlaceResult}
 use Rattle.held.specs.Visits.{eventAfter, countedAfter}
 use Rattle.placing.specs.Added.{heldDay, dayOn, answerOn, visitAdded, therapyAdded, deathAdded}
 use Rattle.placing.specs.Lines.{judgedValues, visitValues, lineJudged, lineOn, Advanced}
-use Rattle.placing.specs.Refusals.{addNumber, refusalBy, refusalOn, Behind, PlacesLater, PlacesEntry, Places}
+use Rattle.placing.specs.Refusals.{addNumber, refusalBy, refusalOn, mayFollow, Behind, PlacesLater, PlacesOther, PlacesEntry, Places}
 
 -- ---- whether a status is NA
 
@@ -69,6 +70,20 @@ fits-by count true s measured x true xq yq = rw (← xq, ← yq)
 fits-by count true s measured x false xq yq = rw (← xq, ← yq)
 fits-by count false s measured x true xq yq = rw (← xq, ← yq)
 fits-by count false s measured x false xq yq = rw (← xq, ← yq)
+
+-- ---- whether a visit may follow
+
+status-as-tested : (nontarget na : Bool) → not (Bool·beq nontarget na) ≡ pick nontarget (not na) na
+status-as-tested true true = refl
+status-as-tested true false = refl
+status-as-tested false true = refl
+status-as-tested false false = refl
+
+pub may-follow : (s : Subject) (day : StudyDay) (status : Status) (dead na : Bool) → dead ≡ isRecorded (dayValue (s .death)) →
+    na ≡ eqb (statusNumber status) 0 →
+    (not dead && (ltb (s .latest .0) (day .0) && not (Bool·beq (s .nontarget) na))) ≡ mayFollow s day status
+unfolding mayFollow
+may-follow s day status dead na dq nq = rw (dq, status-as-tested (s .nontarget) na, nq)
 
 -- ---- the subject after a record
 
@@ -136,6 +151,11 @@ behind-refused refusal a n p r q =
     let met : eqb refusal 0 ≡ false = rw r (ne-eqb (suc n) 0 (omega arith)) in
     record { answer = ap addNumber (q .0) ∙ p ∙ sym r; left = q .1 ∙ rw met; shown = ap visitValues (q .2) ∙ rw met }
 
+-- a choice between a value and itself
+either-way : {A : Type 0} (x : Bool) (a : A) → a ≡ pick x a a
+either-way true a = refl
+either-way false a = refl
+
 behind-done : {s next : Subject} {lines : List VisitLine} {x : PlaceResult} (refusal : ℕ) → refusal ≡ 0 → Advanced next lines x → Behind s next lines refusal x
 behind-done refusal z w =
     let none : eqb refusal 0 ≡ true = rw z in
@@ -166,6 +186,12 @@ no-refusal false true misfit t = absurd (never t)
 no-refusal false false true t = absurd (never t)
 no-refusal false false false t = refl
 
+pub refusal-as-tested : (s : Subject) (day : StudyDay) (v : VisitEntry) (marks : List Bool) (fit : Bool) (a : AddAnswer) →
+    fit ≡ fitsBy (s .baseline .count) (s .nontarget) (v .status) marks →
+    addNumber a ≡ refusalBy (isRecorded (dayValue (s .death))) (leb (day .0) (s .latest .0)) (not fit) → addNumber a ≡ refusalOn s day (E.Visit v) marks
+unfolding refusalOn
+refusal-as-tested s day v marks fit a fq aq = aq ∙ rw fq
+
 -- a visit: one test of the three
 module _ (s : Subject) (day : StudyDay) (v : VisitEntry) (marks : List Bool) (sizes : List ℕ) (x : PlaceResult) (dead fit : Bool)
     (dq : dead ≡ isRecorded (dayValue (s .death))) (fq : fit ≡ fitsBy (s .baseline .count) (s .nontarget) (v .status) marks) where
@@ -183,9 +209,11 @@ module _ (s : Subject) (day : StudyDay) (v : VisitEntry) (marks : List Bool) (si
       let some : refusalBy dead early (not fit) ≡ suc (refusalBy dead early (not fit) - 1) = some-refusal dead early (not fit) t in
       behind-refused _ a _ (aq ∙ rw (← dq) some) (sym refusal-of-visit ∙ some) q
 
-  pub visit-placed : ((dead || early) || not fit) ≡ false → Advanced (visitAdded s day v marks sizes) (lineOn s day v marks sizes ∷ []) x →
+  pub visit-placed : ((dead || early) || not fit) ≡ false → (m : Measured) → Measures (s .baseline .count) (s .baseline .nodes) marks sizes m →
+      ((measured : List Bool) (l : List ℕ) → Measures (s .baseline .count) (s .baseline .nodes) measured l m →
+      Advanced (visitAdded s day v measured l) (lineOn s day v measured l ∷ []) x) →
       PlacesEntry s day (E.Visit v) marks sizes x
-  visit-placed t w = behind-done _ (sym refusal-of-visit ∙ no-refusal dead early (not fit) t) w
+  visit-placed t m w made = behind-done _ (sym refusal-of-visit ∙ no-refusal dead early (not fit) t) (made marks sizes w)
 
 -- a therapy or a death
 module _ (s : Subject) (day : StudyDay) (a : AddAnswer) (n : ℕ) (x : PlaceResult) (nq : n ≡ addNumber a) (next : Subject)
@@ -200,20 +228,38 @@ module _ (s : Subject) (day : StudyDay) (a : AddAnswer) (n : ℕ) (x : PlaceResu
   later-placed z made e w = behind-done _ (sym aq ∙ sym nq ∙ z) (rw e at w)
 
 -- by the record's kind
-module _ (s : Subject) (day : StudyDay) (e : Entry) (marks : List Bool) (sizes : List ℕ) (x : PlaceResult) where
+module _ (s : Subject) (day : StudyDay) (e : Entry) (marks : List Bool) (x : PlaceResult) where
   pub second-baseline : (b : BaselineEntry) → e ≡ E.Baseline b → (x .added .answer ≡ A.SecondBaseline) × (x .added .subject ≡ s) × (x .visit ≡ J.Absent) →
-      PlacesEntry s day e marks sizes x
+      PlacesOther s day e marks x
   unfolding refusalOn
   second-baseline b k q = behind-refused _ A.SecondBaseline 7 refl (rw k) q
 
-  pub of-visit : (v : VisitEntry) → e ≡ E.Visit v → PlacesEntry s day (E.Visit v) marks sizes x → PlacesEntry s day e marks sizes x
-  of-visit v q p = rw q p
+  pub told-of-visit : (v : VisitEntry) (a : AddAnswer) → e ≡ E.Visit v → addNumber a ≡ refusalOn s day (E.Visit v) marks →
+      (x .added .answer ≡ a) × (x .added .subject ≡ s) × (x .visit ≡ J.Absent) → PlacesOther s day e marks x
+  told-of-visit v a k aq q =
+      let none = eqb (refusalOn s day (E.Visit v) marks) 0 in
+      let w : Behind s s [] (refusalOn s day (E.Visit v) marks) x =
+      record { answer = ap addNumber (q .0) ∙ aq; left = q .1 ∙ either-way none s; shown = ap visitValues (q .2) ∙ either-way none [] } in
+      rw k w
 
   module _ (d : Date) where
-    pub of-therapy : e ≡ E.Therapy d → PlacesLater s day (therapyAdded s day) x → PlacesEntry s day e marks sizes x
+    pub of-therapy : e ≡ E.Therapy d → PlacesLater s day (therapyAdded s day) x → PlacesOther s day e marks x
     unfolding refusalOn
     of-therapy q p = rw q p
 
-    pub of-death : e ≡ E.Death d → PlacesLater s day (deathAdded s day) x → PlacesEntry s day e marks sizes x
+    pub of-death : e ≡ E.Death d → PlacesLater s day (deathAdded s day) x → PlacesOther s day e marks x
     unfolding refusalOn
     of-death q p = rw q p
+
+  module _ (sizes : List ℕ) where
+    pub of-visit : (v : VisitEntry) → e ≡ E.Visit v → PlacesEntry s day (E.Visit v) marks sizes x → PlacesEntry s day e marks sizes x
+    of-visit v q p = rw q p
+
+    pub other-baseline : (b : BaselineEntry) → e ≡ E.Baseline b → PlacesOther s day e marks x → PlacesEntry s day e marks sizes x
+    other-baseline b q p = let w : PlacesOther s day (E.Baseline b) marks x = rw q at p in rw q w
+
+    pub other-therapy : (d : Date) → e ≡ E.Therapy d → PlacesOther s day e marks x → PlacesEntry s day e marks sizes x
+    other-therapy d q p = let w : PlacesOther s day (E.Therapy d) marks x = rw q at p in rw q w
+
+    pub other-death : (d : Date) → e ≡ E.Death d → PlacesOther s day e marks x → PlacesEntry s day e marks sizes x
+    other-death d q p = let w : PlacesOther s day (E.Death d) marks x = rw q at p in rw q w

@@ -5,20 +5,21 @@ use mathlib.Core.Path.{_≡_}
 use mathlib.Core.Bool.{Bool, false, not}
 use mathlib.Core.List.{List, []}
 use lib.Dec.{leb, ltb, eqb}
-use Rattle.laws.specs.Choice.{pick}
+use Rattle.laws.specs.Choice.{both, pick}
 use Rattle.dates.specs.declared.StudyDay.{StudyDay}
 use Rattle.records.specs.declared.Entry.{Entry}
 use Rattle.records.specs.declared.Entry.the-variants as E
 use Rattle.records.specs.declared.Record.{Record}
+use Rattle.records.specs.declared.Status.{Status}
 use Rattle.records.specs.Form.{kindNumber}
 use Rattle.endpoints.specs.Values.{isRecorded, dayValue}
-use Rattle.endpoints.specs.Lawful.{fitsBy}
+use Rattle.endpoints.specs.Lawful.{statusFits, fitsBy}
 use Rattle.endpoints.specs.Lines.{VisitLine}
 use Rattle.held.specs.declared.Subject.{Subject}
 use Rattle.placing.specs.declared.AddAnswer.{AddAnswer}
 use Rattle.placing.specs.declared.AddAnswer.the-variants as A
 use Rattle.placing.specs.declared.PlaceResult.{PlaceResult}
-use Rattle.placing.specs.Added.{dayOn, entryAdded}
+use Rattle.placing.specs.Added.{dayOn, therapyAdded, deathAdded, entryAdded}
 use Rattle.placing.specs.Lines.{visitValues, linesOn}
 
 -- the number of each case in document 01; 0 where no refusal meets
@@ -54,6 +55,10 @@ refusalBy dead early misfit = pick dead 9 (pick early 10 (pick misfit 11 0))
 unfoldable pub refusalOn : Subject → StudyDay → Entry → List Bool → ℕ
 refusalOn s day e marks = pick (eqb (kindNumber e) 1) 8 (refusalBy (isRecorded (dayValue (s .death))) (earlyOn s day e) (misfitOn s e marks))
 
+-- of a visit neither 9 nor 10, and its status fits the baseline
+unfoldable pub mayFollow : Subject → StudyDay → Status → Bool
+mayFollow s day status = both (not (isRecorded (dayValue (s .death)))) (both (ltb (s .latest .0) (day .0)) (statusFits (s .nontarget) status))
+
 -- what placing promises: a refusal's number or 0, the next subject, or the same one beside a refusal, and the lines, or none
 pub record Behind (s next : Subject) (lines : List VisitLine) (refusal : ℕ) (x : PlaceResult) : Type 0 where
   pub answer : addNumber (x .added .answer) ≡ refusal
@@ -63,6 +68,16 @@ pub record Behind (s next : Subject) (lines : List VisitLine) (refusal : ℕ) (x
 -- of a therapy or a death, by the subject after it: 9, or 10 before the latest day; no line
 abbrev pub PlacesLater : Subject → StudyDay → Subject → PlaceResult → Type 0
 PlacesLater s day next x = Behind s next [] (refusalBy (isRecorded (dayValue (s .death))) (ltb (day .0) (s .latest .0)) false) x
+
+-- the subject after a record that is no visit; of a visit the refusal alone is told
+abbrev pub otherAdded : Subject → StudyDay → Entry → Subject
+otherAdded s day (E.Baseline b) = s
+otherAdded s day (E.Visit v) = s
+otherAdded s day (E.Therapy d) = therapyAdded s day
+otherAdded s day (E.Death d) = deathAdded s day
+
+abbrev pub PlacesOther : Subject → StudyDay → Entry → List Bool → PlaceResult → Type 0
+PlacesOther s day e marks x = Behind s (otherAdded s day e) [] (refusalOn s day e marks) x
 
 -- of a record that none of its own refusals meets, on a study day: the first of 8 to 11
 abbrev pub PlacesEntry : Subject → StudyDay → Entry → List Bool → List ℕ → PlaceResult → Type 0

@@ -13,13 +13,17 @@ use held::counted_after;
 use held::event_after;
 use records::Status;
 use records::VisitEntry;
+use response::Measured;
 use response::VisitAnswer;
 use results::is_recorded;
 ghost use mathlib.Core.Path.{_≡_};
-ghost use mathlib.Core.List.{[], _∷_};
+ghost use mathlib.Core.Bool.{Bool};
+ghost use mathlib.Core.List.{List, [], _∷_};
+ghost use Prim.Native.Nat.{ℕ};
 ghost use Rattle.laws.specs.Choice.{pick};
 ghost use Rattle.criteria.specs.Words.{overallWord};
-ghost use Rattle.response.specs.Judging.{JudgesVisit};
+ghost use Rattle.records.specs.declared.VisitEntry.{VisitEntry};
+ghost use Rattle.response.specs.Judging.{Measures, JudgesVisit};
 ghost use Rattle.held.specs.Visits.{countedAfter};
 ghost use Rattle.placing.specs.Added.{visitAdded, therapyAdded, deathAdded};
 ghost use Rattle.placing.specs.Lines.{judgedValues, lineJudged, lineOn, Advanced};
@@ -33,16 +37,8 @@ fn counted_unless(closed: bool, c: CountingVisits, day: StudyDay, answer: Overal
     counted_after(c, day, answer)
 }
 
-fn with_visit(
-    s: Subject,
-    day: StudyDay,
-    v: VisitEntry,
-    measured: [bool; 5],
-    sizes: [u16; 5],
-    judged: VisitAnswer,
-) -> Subject
-    requires { ⌜ JudgesVisit (s .baseline) (s .earlier) v measured sizes judged ⌝ }
-    ensures { λ r. ⌜ r ≡ visitAdded s day v measured sizes ⌝ }
+fn with_visit(s: Subject, day: StudyDay, judged: VisitAnswer) -> Subject
+    ensures { λ r. ⌜ ((v : VisitEntry) (measured : List Bool) (sizes : List ℕ) → JudgesVisit (s .baseline) (s .earlier) v measured sizes judged → r ≡ visitAdded s day v measured sizes) ⌝ }
 {
     let randomisation = s.randomisation;
     let baseline = s.baseline;
@@ -83,21 +79,15 @@ fn line_of(day: StudyDay, status: Status, judged: VisitAnswer) -> JudgedVisit
     }
 }
 
-// The subject after a visit, and its line.
-pub(crate) fn visited(
-    s: Subject,
-    day: StudyDay,
-    v: VisitEntry,
-    measured: [bool; 5],
-    sizes: [u16; 5],
-) -> PlaceResult
-    ensures { λ x. ⌜ Advanced (visitAdded s day v measured sizes) (lineOn s day v measured sizes ∷ []) x ⌝ }
+// The subject after a visit, and its line, from what its sizes come to.
+pub fn visited(s: Subject, day: StudyDay, v: VisitEntry, m: Measured) -> PlaceResult
+    ensures { λ x. ⌜ ((measured : List Bool) (sizes : List ℕ) → Measures (s .baseline .count) (s .baseline .nodes) measured sizes m → Advanced (visitAdded s day v measured sizes) (lineOn s day v measured sizes ∷ []) x) ⌝ }
 {
     let status = v.status;
     let baseline = s.baseline;
     let earlier = s.earlier;
-    let judged = response::judge_visit(baseline, earlier, v, measured, sizes);
-    let next = with_visit(s, day, v, measured, sizes, judged);
+    let judged = response::judge_visit(baseline, earlier, v, m);
+    let next = with_visit(s, day, judged);
     let line = line_of(day, status, judged);
     PlaceResult {
         added: AddResult {

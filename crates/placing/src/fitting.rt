@@ -33,7 +33,7 @@ fn measured_beyond(count: u8, measured: [bool; 5]) -> bool
     )
 }
 
-fn is_na(status: Status) -> bool
+pub(crate) fn is_na(status: Status) -> bool
     ensures { λ r. ⌜ r ≡ eqb (statusNumber status) 0 ⌝ }
 {
     match status {

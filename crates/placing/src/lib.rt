@@ -13,7 +13,11 @@ mod fitting; // fitting.rt: whether a visit fits the baseline
 mod added; // added.rt: the subject after a record
 mod refusals; // refusals.rt: 8 to 11
 
+pub use added::visited;
+pub use refusals::held_day;
+pub use refusals::may_follow;
 pub use refusals::place;
+pub use refusals::place_other;
 
 // What adding answers.
 pub enum AddAnswer {

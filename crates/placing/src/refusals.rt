@@ -8,12 +8,14 @@ use super::added::visited;
 use super::added::with_death;
 use super::added::with_therapy;
 use super::fitting::fits;
+use super::fitting::is_na;
 use dates::Date;
 use dates::StudyDay;
 use dates::StudyDayAnswer;
 use held::Subject;
 use records::Entry;
 use records::Record;
+use records::Status;
 use records::VisitEntry;
 use results::is_recorded;
 ghost use mathlib.Core.Path.{_≡_};
@@ -25,10 +27,10 @@ ghost use Rattle.endpoints.specs.Values.{isRecorded, dayValue};
 ghost use Rattle.placing.specs.Added.{heldDay, therapyAdded, deathAdded};
 ghost use Rattle.placing.specs.declared.MaybeVisit.the-variants as J;
 ghost use Rattle.placing.specs.Lines.{Advanced};
-ghost use Rattle.placing.specs.Refusals.{addNumber, refusalBy, PlacesLater, PlacesEntry, Places};
+ghost use Rattle.placing.specs.Refusals.{addNumber, refusalBy, refusalOn, mayFollow, PlacesLater, PlacesOther, PlacesEntry, Places};
 
 // The study day of a date; 0, which is no study day, where there is none.
-fn held_day(randomisation: Date, date: Date) -> StudyDay
+pub fn held_day(randomisation: Date, date: Date) -> StudyDay
     ensures { λ r. ⌜ r ≡ heldDay randomisation date ⌝ }
 {
     match dates::study_day(date, randomisation) {
@@ -97,7 +99,29 @@ fn place_visit(
     if is_recorded(death) | early | !fit {
         return refused(s, refusal_behind(s, early, !fit));
     }
-    visited(s, day, v, measured, sizes)
+    let baseline = s.baseline;
+    let nodes = baseline.nodes;
+    let m = response::measure(baseline.count, nodes, measured, sizes);
+    visited(s, day, v, m)
+}
+
+// Whether neither 9 nor 10 meets a visit, and its status fits the baseline.
+pub fn may_follow(s: Subject, day: StudyDay, status: Status) -> bool
+    ensures { λ r. ⌜ r ≡ mayFollow s day status ⌝ }
+{
+    let death = s.death;
+    let dead = is_recorded(death);
+    let na = is_na(status);
+    !dead & ((s.latest.0 < day.0) & (s.nontarget != na))
+}
+
+// 9 to 11 of a visit.
+fn refusal_of_visit(s: Subject, day: StudyDay, v: VisitEntry, measured: [bool; 5]) -> AddAnswer
+    ensures { λ a. ⌜ addNumber a ≡ refusalOn s day (E.Visit v) measured ⌝ }
+{
+    let status = v.status;
+    let fit = fits(s.baseline.count, s.nontarget, status, measured);
+    refusal_behind(s, day.0 <= s.latest.0, !fit)
 }
 
 // 9 and 10 of a therapy or a death, which is on or after the latest day.
@@ -130,6 +154,20 @@ fn place_death(s: Subject, day: StudyDay) -> PlaceResult
     advanced(dead)
 }
 
+// A record that is no visit; of a visit its refusal alone, so that nothing else of it stands beside what `visited` makes.
+pub fn place_other(s: Subject, day: StudyDay, r: Record) -> PlaceResult
+    ensures { λ x. ⌜ PlacesOther s day (r .entry) (r .marks) x ⌝ }
+{
+    let entry = r.entry;
+    let marks = r.marks;
+    match entry {
+        Entry::Baseline(_) => refused(s, AddAnswer::SecondBaseline),
+        Entry::Visit(v) => refused(s, refusal_of_visit(s, day, v, marks)),
+        Entry::Therapy(_) => place_therapy(s, day),
+        Entry::Death(_) => place_death(s, day),
+    }
+}
+
 fn place_on(s: Subject, day: StudyDay, r: Record) -> PlaceResult
     ensures { λ x. ⌜ PlacesEntry s day (r .entry) (r .marks) (r .sizes) x ⌝ }
 {
@@ -137,10 +175,10 @@ fn place_on(s: Subject, day: StudyDay, r: Record) -> PlaceResult
     let marks = r.marks;
     let sizes = r.sizes;
     match entry {
-        Entry::Baseline(_) => refused(s, AddAnswer::SecondBaseline),
+        Entry::Baseline(_) => place_other(s, day, r),
         Entry::Visit(v) => place_visit(s, day, v, marks, sizes),
-        Entry::Therapy(_) => place_therapy(s, day),
-        Entry::Death(_) => place_death(s, day),
+        Entry::Therapy(_) => place_other(s, day, r),
+        Entry::Death(_) => place_other(s, day, r),
     }
 }
 

@@ -10,6 +10,8 @@ ghost use Rattle.records.specs.declared.VisitEntry.{VisitEntry};
 
 mod targets; // targets.rt: what some of the five targets breaks
 
+pub use targets::some_beyond_mark;
+
 // The non-target status of a visit.
 pub enum Status {
     // No non-target lesions at baseline.
@@ -114,7 +116,7 @@ fn first_of(outside: bool, set: bool) -> CheckAnswer
 
 // Refusals 4 and 5 of a visit. One test passes most visits: a target that is too large for its mark breaks 4 where it is measured, and
 // 5 where it is not.
-pub fn check_visit(badstatus: bool, marks: [bool; 5], sizes: [u16; 5], spare: bool) -> CheckAnswer
+fn check_visit(badstatus: bool, marks: [bool; 5], sizes: [u16; 5], spare: bool) -> CheckAnswer
     ensures { λ c. ⌜ ((v : VisitEntry) → checkNumber c ≡ firstOwn false (either badstatus (outsideLimits (Visit v) marks sizes)) (either spare (notZero (Visit v) marks sizes))) ⌝ }
 {
     if badstatus {

@@ -91,7 +91,8 @@ pub(crate) fn some_set_beyond(count: u8, marks: [bool; 5], sizes: [u16; 5]) -> b
     )
 }
 
-pub(crate) fn some_beyond_mark(marks: [bool; 5], sizes: [u16; 5]) -> bool
+// A size that breaks 4 or 5 in a visit.
+pub fn some_beyond_mark(marks: [bool; 5], sizes: [u16; 5]) -> bool
     ensures { λ r. ⌜ r ≡ either (someTarget (λ (i : ℕ). largeMeasured) marks sizes) (someTarget (λ (i : ℕ). sizedUnmeasured) marks sizes) ⌝ }
 {
     any_of_five(

@@ -8,18 +8,26 @@ use Rattle.records.specs.declared.BaselineEntry.{BaselineEntry}
 use Rattle.records.specs.declared.VisitEntry.{VisitEntry}
 use Rattle.criteria.specs.Words.{targetWord, statusWord, overallWord}
 use Rattle.criteria.specs.Inputs.{diseaseOf}
-use Rattle.criteria.specs.Targets.{targetAnswer}
+use Rattle.criteria.specs.Sums.{measuredSum, allMeasured}
+use Rattle.criteria.specs.Targets.{allGone, targetAnswer}
 use Rattle.criteria.specs.Nadir.{leftBy, afterVisit}
 use Rattle.criteria.specs.Overall.{overallAnswer}
 use Rattle.criteria.specs.Change.{changeValues, changeOf}
 use Rattle.criteria.specs.declared.BaselineDisease.{BaselineDisease}
 use Rattle.criteria.specs.declared.Earlier.{Earlier}
 use Rattle.response.specs.declared.BaselineAnswer.{BaselineAnswer}
+use Rattle.response.specs.declared.Measured.{Measured}
 use Rattle.response.specs.declared.VisitAnswer.{VisitAnswer}
 
 pub record JudgesBaseline (entry : BaselineEntry) (nodes : List Bool) (sizes : List ℕ) (a : BaselineAnswer) : Type 0 where
   pub disease : a .disease ≡ diseaseOf entry nodes sizes
   pub after : a .after ≡ leftBy (diseaseOf entry nodes sizes) []
+
+-- what the sizes of a visit come to: the sum of the measured, all measured, and every node at most 9 and every other 0
+pub record Measures (count : ℕ) (nodes measured : List Bool) (sizes : List ℕ) (m : Measured) : Type 0 where
+  pub sum : m .sum ≡ measuredSum measured sizes
+  pub complete : m .complete ≡ allMeasured count measured
+  pub gone : m .gone ≡ allGone count nodes sizes
 
 pub record JudgesVisit (b : BaselineDisease) (e : Earlier) (v : VisitEntry) (measured : List Bool) (sizes : List ℕ) (a : VisitAnswer) : Type 0 where
   pub target : targetWord (a .target) ≡ targetAnswer b e measured sizes

@@ -6,7 +6,10 @@ use criteria::Overall;
 use criteria::Target;
 use records::BaselineEntry;
 use records::VisitEntry;
-ghost use Rattle.response.specs.Judging.{JudgesBaseline, JudgesVisit};
+ghost use mathlib.Core.Bool.{Bool};
+ghost use mathlib.Core.List.{List};
+ghost use Prim.Native.Nat.{ℕ};
+ghost use Rattle.response.specs.Judging.{JudgesBaseline, Measures, JudgesVisit};
 
 mod sums; // sums.rt: sums of sizes, and whether every target is measured
 mod targets; // targets.rt: the target answer
@@ -43,22 +46,43 @@ pub fn judge_baseline(entry: BaselineEntry, nodes: [bool; 5], sizes: [u16; 5]) -
     }
 }
 
+// What the sizes of a visit come to. In this order of its fields the compiler keeps them apart.
+pub struct Measured {
+    // Every target is measured.
+    pub complete: bool,
+    // The sum of the measured.
+    pub sum: u32,
+    // Every node is normal and every other target gone.
+    pub gone: bool,
+}
+
+pub fn measure(count: u8, nodes: [bool; 5], measured: [bool; 5], sizes: [u16; 5]) -> Measured
+    ensures { λ m. ⌜ Measures count nodes measured sizes m ⌝ }
+{
+    let sum = sums::measured_sum(measured, sizes);
+    let complete = sums::all_measured(count, measured);
+    let gone = targets::all_gone(count, nodes, sizes);
+    Measured {
+        complete: complete,
+        sum: sum,
+        gone: gone,
+    }
+}
+
+// From what the sizes of the visit come to.
 pub fn judge_visit(
     baseline: BaselineDisease,
     earlier: Earlier,
     entry: VisitEntry,
-    measured: [bool; 5],
-    sizes: [u16; 5],
+    m: Measured,
 ) -> VisitAnswer
-    ensures { λ r. ⌜ JudgesVisit baseline earlier entry measured sizes r ⌝ }
+    ensures { λ r. ⌜ ((measured : List Bool) (sizes : List ℕ) → Measures (baseline .count) (baseline .nodes) measured sizes m → JudgesVisit baseline earlier entry measured sizes r) ⌝ }
 {
     let status = entry.status;
-    let sum = sums::measured_sum(measured, sizes);
-    let complete = sums::all_measured(baseline.count, measured);
-    let target = targets::target_answer(baseline, earlier, complete, sum, sizes);
+    let target = targets::target_answer(baseline, earlier, m.sum, m.complete, m.gone);
     let overall = grid::overall_answer(baseline.assessed, entry.newlesion, target, status);
-    let change = change::change_from_baseline(baseline, complete, sum);
-    let after = nadir::after_visit(earlier, complete, sum);
+    let change = change::change_from_baseline(baseline, m.complete, m.sum);
+    let after = nadir::after_visit(earlier, m.complete, m.sum);
     VisitAnswer {
         target: target,
         overall: overall,

@@ -5,6 +5,7 @@ use criteria::Target;
 ghost use mathlib.Core.Path.{_≡_};
 ghost use mathlib.Core.Bool.{Bool};
 ghost use mathlib.Core.List.{List};
+ghost use Prim.Native.Nat.{ℕ};
 ghost use Rattle.criteria.specs.Words.{targetWord};
 ghost use Rattle.criteria.specs.Sums.{measuredSum, allMeasured};
 ghost use Rattle.criteria.specs.Targets.{gone, allGone, grown, shrunk, targetAnswer};
@@ -28,7 +29,7 @@ fn is_gone(node: bool, size: u16) -> bool
 }
 
 // The first target decides most visits; the others are joined without a branch, for speed.
-fn all_gone(count: u8, nodes: [bool; 5], sizes: [u16; 5]) -> bool
+pub(crate) fn all_gone(count: u8, nodes: [bool; 5], sizes: [u16; 5]) -> bool
     ensures { λ r. ⌜ r ≡ allGone count nodes sizes ⌝ }
 {
     let first = is_gone(nodes[0], sizes[0]);
@@ -53,21 +54,20 @@ fn has_shrunk(baseline: u32, sum: u32) -> bool
     10 * sum as u64 <= PARTIAL_TENTHS * baseline as u64
 }
 
-// From whether every target is measured, the sum of the measured and the sizes.
+// From the sum of the measured, whether every target is measured and whether every one is gone.
 pub(crate) fn target_answer(
     baseline: BaselineDisease,
     earlier: Earlier,
-    complete: bool,
     sum: u32,
-    sizes: [u16; 5],
+    complete: bool,
+    gone: bool,
 ) -> Target
-    ensures { λ r. ⌜ ((measured : List Bool) → complete ≡ allMeasured (baseline .count) measured → sum ≡ measuredSum measured sizes → targetWord r ≡ targetAnswer baseline earlier measured sizes) ⌝ }
+    ensures { λ r. ⌜ ((measured : List Bool) (sizes : List ℕ) → sum ≡ measuredSum measured sizes → complete ≡ allMeasured (baseline .count) measured → gone ≡ allGone (baseline .count) (baseline .nodes) sizes → targetWord r ≡ targetAnswer baseline earlier measured sizes) ⌝ }
 {
     if baseline.count == 0 {
         return Target::NA;
     }
-    let nodes = baseline.nodes;
-    if complete & all_gone(baseline.count, nodes, sizes) {
+    if complete & gone {
         return Target::CR;
     }
     if has_grown(earlier.nadir, sum) {

@@ -1,4 +1,4 @@
--- `response::judge_visit` meets its contract: each part is what its rule ensures at the completeness and the sum of this visit.
+-- `response::judge_visit` meets its contract: each part is what its rule ensures at what the sizes come to.
 -- Assumes nothing.
 use borrow.Author.Needs.{needs}
 use Rattle.response.proofs.judge_visit.Statement.{statement}
@@ -12,16 +12,11 @@ judge-visit-spec =
     (λ c κs. search needs)
     (λ c κs. search needs)
     (λ c κs. search needs)
-    (λ c κs. search needs)
-    (λ c κs. search needs)
-    (λ c.
-    let looked = c .before .before .before .before in
-    let se = looked .before .measured-sum .ensures in
-    let me = looked .all-measured .ensures in
-    let t = c .before .before .before .target-answer .ensures _ me se in
+    (λ c. λ measured sizes w.
+    let t = c .before .before .before .target-answer .ensures _ _ (w .sum) (w .complete) (w .gone) in
     record {
       target = t;
       overall = rw (← t) (c .before .before .overall-answer .ensures);
-      change = c .before .change-from-baseline .ensures _ _ me se;
-      after = c .after-visit .ensures _ _ _ me se;
+      change = c .before .change-from-baseline .ensures _ _ (w .complete) (w .sum);
+      after = c .after-visit .ensures _ _ _ (w .complete) (w .sum);
     }))

@@ -1,7 +1,7 @@
 -- `placing::refusals::place_on` meets its contract.
 -- Assumes nothing.
 use borrow.Author.Needs.{needs}
-use Rattle.placing.proofs.Returns.{second-baseline, of-visit, of-therapy, of-death}
+use Rattle.placing.proofs.Returns.{of-visit, other-baseline, other-therapy, other-death}
 use Rattle.placing.proofs.refusals.place_on.Statement.{statement}
 use Rattle.placing.proofs.refusals.place_on.Tie as tie
 
@@ -17,7 +17,7 @@ place-on-spec =
     (λ c κs. search needs)
     (λ c. search needs)
     (λ c κs. search needs)
-    (λ c. search second-baseline)
+    (λ c. search other-baseline)
     (λ c. search of-visit)
-    (λ c. search of-therapy)
-    (λ c. search of-death))
+    (λ c. search other-therapy)
+    (λ c. search other-death))

@@ -15,4 +15,5 @@ place-visit-spec =
     (λ c κs. search needs)
     (λ c. search visit-refused)
     (λ c κs. search needs)
+    (λ c κs. search needs)
     (λ c. search visit-placed))

@@ -9,12 +9,11 @@ pub target-answer-spec : {M : Type 1} → statement M
 target-answer-spec =
     tie.close
     (tie.spec
-    (λ c. λ measured me se. search no-targets)
+    (λ c. λ measured sizes se me ge. search no-targets)
+    (λ c. λ measured sizes se me ge. search complete)
     (λ c κs. search needs)
-    (λ c. λ measured me se. search complete)
+    (λ c. λ measured sizes se me ge. search progressive)
+    (λ c. λ measured sizes se me ge. search some-unmeasured)
     (λ c κs. search needs)
-    (λ c. λ measured me se. search progressive)
-    (λ c. λ measured me se. search some-unmeasured)
-    (λ c κs. search needs)
-    (λ c. λ measured me se. search partly)
-    (λ c. λ measured me se. search stable))
+    (λ c. λ measured sizes se me ge. search partly)
+    (λ c. λ measured sizes se me ge. search stable))

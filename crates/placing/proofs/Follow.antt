@@ -1,0 +1,32 @@
+-- A visit that none of 9 to 11 meets: it may follow, and no target beyond the count is measured.
+-- Assumes nothing.
+use mathlib.Core.Path.{_≡_, refl, _∙_}
+use mathlib.Core.Bool.{Bool, true, false, not}
+use mathlib.Core.List.{List}
+use Prim.Native.Nat.{ℕ}
+use lib.Dec.{ltb, leb, eqb}
+use Rattle.laws.specs.Choice.{both, pick}
+use Rattle.laws.proofs.Tests.{not-ltb}
+use Rattle.dates.specs.declared.StudyDay.{StudyDay}
+use Rattle.records.specs.declared.Entry.the-variants as E
+use Rattle.records.specs.declared.VisitEntry.{VisitEntry}
+use Rattle.endpoints.specs.Values.{isRecorded, dayValue}
+use Rattle.endpoints.specs.Lawful.{measuredBeyond, statusFits, fitsBy}
+use Rattle.held.specs.declared.Subject.{Subject}
+use Rattle.placing.specs.Refusals.{refusalBy, refusalOn, mayFollow}
+
+by-parts : (dead later beyond fits : Bool) →
+    eqb (refusalBy dead (not later) (not (both (not beyond) fits))) 0 ≡ both (both (not dead) (both later fits)) (not beyond)
+by-parts true later beyond fits = refl
+by-parts false false beyond fits = refl
+by-parts false true true true = refl
+by-parts false true true false = refl
+by-parts false true false true = refl
+by-parts false true false false = refl
+
+pub visit-follows : (s : Subject) (day : StudyDay) (v : VisitEntry) (marks : List Bool) →
+    eqb (refusalOn s day (E.Visit v) marks) 0 ≡ both (mayFollow s day (v .status)) (not (measuredBeyond (s .baseline .count) marks))
+unfolding refusalOn mayFollow fitsBy
+visit-follows s day v marks =
+    rw (← not-ltb (s .latest .0) (day .0))
+    (by-parts (isRecorded (dayValue (s .death))) (ltb (s .latest .0) (day .0)) (measuredBeyond (s .baseline .count) marks) (statusFits (s .nontarget) (v .status)))
