@@ -174,58 +174,30 @@ module _ (dead early misfit d : Bool) (dq : d ≡ dead) where
   pub none-behind : d ≡ false → early ≡ false → misfit ≡ false → 0 ≡ refusalBy dead early misfit
   none-behind h k m = rw (← dq, h, k, m)
 
-some-refusal : (dead early misfit : Bool) → ((dead || early) || misfit) ≡ true → refusalBy dead early misfit ≡ suc (refusalBy dead early misfit - 1)
-some-refusal true early misfit t = refl
-some-refusal false true misfit t = refl
-some-refusal false false true t = refl
-some-refusal false false false t = absurd (never (sym t))
-
-no-refusal : (dead early misfit : Bool) → ((dead || early) || misfit) ≡ false → refusalBy dead early misfit ≡ 0
-no-refusal true early misfit t = absurd (never t)
-no-refusal false true misfit t = absurd (never t)
-no-refusal false false true t = absurd (never t)
-no-refusal false false false t = refl
-
 pub refusal-as-tested : (s : Subject) (day : StudyDay) (v : VisitEntry) (marks : List Bool) (fit : Bool) (a : AddAnswer) →
     fit ≡ fitsBy (s .baseline .count) (s .nontarget) (v .status) marks →
     addNumber a ≡ refusalBy (isRecorded (dayValue (s .death))) (leb (day .0) (s .latest .0)) (not fit) → addNumber a ≡ refusalOn s day (E.Visit v) marks
 unfolding refusalOn
 refusal-as-tested s day v marks fit a fq aq = aq ∙ rw fq
 
--- a visit: one test of the three
-module _ (s : Subject) (day : StudyDay) (v : VisitEntry) (marks : List Bool) (sizes : List ℕ) (x : PlaceResult) (dead fit : Bool)
-    (dq : dead ≡ isRecorded (dayValue (s .death))) (fq : fit ≡ fitsBy (s .baseline .count) (s .nontarget) (v .status) marks) where
-  abbrev early : Bool
-  early = leb (day .0) (s .latest .0)
-
-  refusal-of-visit : refusalBy dead early (not fit) ≡ refusalOn s day (E.Visit v) marks
-  unfolding refusalOn
-  refusal-of-visit = rw (dq, fq)
-
-  pub visit-refused : (a : AddAnswer) → ((dead || early) || not fit) ≡ true →
-      addNumber a ≡ refusalBy (isRecorded (dayValue (s .death))) early (not fit) →
-      (x .added .answer ≡ a) × (x .added .subject ≡ s) × (x .visit ≡ J.Absent) → PlacesEntry s day (E.Visit v) marks sizes x
-  visit-refused a t aq q =
-      let some : refusalBy dead early (not fit) ≡ suc (refusalBy dead early (not fit) - 1) = some-refusal dead early (not fit) t in
-      behind-refused _ a _ (aq ∙ rw (← dq) some) (sym refusal-of-visit ∙ some) q
-
-  pub visit-placed : ((dead || early) || not fit) ≡ false → (m : Measured) → Measures (s .baseline .count) (s .baseline .nodes) marks sizes m →
-      ((measured : List Bool) (l : List ℕ) → Measures (s .baseline .count) (s .baseline .nodes) measured l m →
-      Advanced (visitAdded s day v measured l) (lineOn s day v measured l ∷ []) x) →
-      PlacesEntry s day (E.Visit v) marks sizes x
-  visit-placed t m w made = behind-done _ (sym refusal-of-visit ∙ no-refusal dead early (not fit) t) (made marks sizes w)
-
--- a therapy or a death
-module _ (s : Subject) (day : StudyDay) (a : AddAnswer) (n : ℕ) (x : PlaceResult) (nq : n ≡ addNumber a) (next : Subject)
-    (aq : addNumber a ≡ refusalBy (isRecorded (dayValue (s .death))) (ltb (day .0) (s .latest .0)) false) where
-  pub later-refused : (n ≡ 0 → ⊥) → (x .added .answer ≡ a) × (x .added .subject ≡ s) × (x .visit ≡ J.Absent) → PlacesLater s day next x
-  later-refused z q = behind-refused _ a (n - 1) (sym nq ∙ more) (sym aq ∙ sym nq ∙ more) q
+-- by the number of the refusal
+module _ (s next : Subject) (lines : List VisitLine) (refusal : ℕ) (a : AddAnswer) (n : ℕ) (x : PlaceResult) (nq : n ≡ addNumber a) (aq : addNumber a ≡ refusal) where
+  pub told-refused : (n ≡ 0 → ⊥) → (x .added .answer ≡ a) × (x .added .subject ≡ s) × (x .visit ≡ J.Absent) → Behind s next lines refusal x
+  told-refused z q = behind-refused _ a (n - 1) (sym nq ∙ more) (sym aq ∙ sym nq ∙ more) q
     where
       more : n ≡ suc (n - 1)
       more = omega arith
 
-  pub later-placed : n ≡ 0 → (made : Subject) → made ≡ next → Advanced made [] x → PlacesLater s day next x
-  later-placed z made e w = behind-done _ (sym aq ∙ sym nq ∙ z) (rw e at w)
+  pub told-placed : n ≡ 0 → (made : Subject) → made ≡ next → Advanced made lines x → Behind s next lines refusal x
+  told-placed z made e w = behind-done _ (sym aq ∙ sym nq ∙ z) (rw e at w)
+
+pub visit-placed : (s : Subject) (day : StudyDay) (v : VisitEntry) (marks : List Bool) (sizes : List ℕ) (a : AddAnswer) (n : ℕ) (x : PlaceResult) →
+    n ≡ addNumber a → addNumber a ≡ refusalOn s day (E.Visit v) marks → n ≡ 0 →
+    (m : Measured) → Measures (s .baseline .count) (s .baseline .nodes) marks sizes m →
+    ((measured : List Bool) (l : List ℕ) → Measures (s .baseline .count) (s .baseline .nodes) measured l m →
+    Advanced (visitAdded s day v measured l) (lineOn s day v measured l ∷ []) x) →
+    PlacesEntry s day (E.Visit v) marks sizes x
+visit-placed s day v marks sizes a n x nq aq z m w made = told-placed s _ _ _ a n x nq aq z _ refl (made marks sizes w)
 
 -- by the record's kind
 module _ (s : Subject) (day : StudyDay) (e : Entry) (marks : List Bool) (x : PlaceResult) where

@@ -82,29 +82,6 @@ fn refusal_behind(s: Subject, early: bool, misfit: bool) -> AddAnswer
     AddAnswer::Done
 }
 
-// One test passes most visits; which number meets is asked of the others.
-fn place_visit(
-    s: Subject,
-    day: StudyDay,
-    v: VisitEntry,
-    measured: [bool; 5],
-    sizes: [u16; 5],
-) -> PlaceResult
-    ensures { λ x. ⌜ PlacesEntry s day (E.Visit v) measured sizes x ⌝ }
-{
-    let status = v.status;
-    let death = s.death;
-    let early = day.0 <= s.latest.0;
-    let fit = fits(s.baseline.count, s.nontarget, status, measured);
-    if is_recorded(death) | early | !fit {
-        return refused(s, refusal_behind(s, early, !fit));
-    }
-    let baseline = s.baseline;
-    let nodes = baseline.nodes;
-    let m = response::measure(baseline.count, nodes, measured, sizes);
-    visited(s, day, v, m)
-}
-
 // Whether neither 9 nor 10 meets a visit, and its status fits the baseline.
 pub fn may_follow(s: Subject, day: StudyDay, status: Status) -> bool
     ensures { λ r. ⌜ r ≡ mayFollow s day status ⌝ }
@@ -122,6 +99,25 @@ fn refusal_of_visit(s: Subject, day: StudyDay, v: VisitEntry, measured: [bool; 5
     let status = v.status;
     let fit = fits(s.baseline.count, s.nontarget, status, measured);
     refusal_behind(s, day.0 <= s.latest.0, !fit)
+}
+
+fn place_visit(
+    s: Subject,
+    day: StudyDay,
+    v: VisitEntry,
+    measured: [bool; 5],
+    sizes: [u16; 5],
+) -> PlaceResult
+    ensures { λ x. ⌜ PlacesEntry s day (E.Visit v) measured sizes x ⌝ }
+{
+    let refusal = refusal_of_visit(s, day, v, measured);
+    if add_number(refusal) != 0 {
+        return refused(s, refusal);
+    }
+    let baseline = s.baseline;
+    let nodes = baseline.nodes;
+    let m = response::measure(baseline.count, nodes, measured, sizes);
+    visited(s, day, v, m)
 }
 
 // 9 and 10 of a therapy or a death, which is on or after the latest day.

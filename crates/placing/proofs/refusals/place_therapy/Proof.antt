@@ -1,7 +1,7 @@
 -- `placing::refusals::place_therapy` meets its contract.
 -- Assumes nothing.
 use borrow.Author.Needs.{needs}
-use Rattle.placing.proofs.Returns.{later-refused, later-placed}
+use Rattle.placing.proofs.Returns.{told-refused, told-placed}
 use Rattle.placing.proofs.refusals.place_therapy.Statement.{statement}
 use Rattle.placing.proofs.refusals.place_therapy.Tie as tie
 
@@ -12,7 +12,7 @@ place-therapy-spec =
     (λ c κs. search needs)
     (λ c κs. search needs)
     (λ c κs. search needs)
-    (λ c. search later-refused)
+    (λ c. search told-refused)
     (λ c κs. search needs)
     (λ c κs. search needs)
-    (λ c. search later-placed))
+    (λ c. search told-placed))

@@ -1,7 +1,7 @@
 -- `placing::refusals::place_visit` meets its contract.
 -- Assumes nothing.
 use borrow.Author.Needs.{needs}
-use Rattle.placing.proofs.Returns.{visit-refused, visit-placed}
+use Rattle.placing.proofs.Returns.{told-refused, visit-placed}
 use Rattle.placing.proofs.refusals.place_visit.Statement.{statement}
 use Rattle.placing.proofs.refusals.place_visit.Tie as tie
 
@@ -12,8 +12,7 @@ place-visit-spec =
     (λ c κs. search needs)
     (λ c κs. search needs)
     (λ c κs. search needs)
-    (λ c κs. search needs)
-    (λ c. search visit-refused)
+    (λ c. search told-refused)
     (λ c κs. search needs)
     (λ c κs. search needs)
     (λ c. search visit-placed))
