@@ -2,10 +2,9 @@
 -- Assumes nothing.
 use mathlib.Core.Path.{refl}
 use Rattle.dates.specs.Calendar.{leapYear, daysInMonth, dateExists}
-use Rattle.records.specs.Refusals.{setBeyond, outsideLimits, notZero, refusalOfRead}
+use Rattle.records.specs.Refusals.{wrongSize, setBeyond, withoutDisease, outsideLimits, notZero, refusalOfRead}
 use Rattle.codec.specs.Bytes.{recordNumber, bytesOf, bytesNumber}
-use Rattle.codec.specs.Reading.{spareIn, rawIn, refusalOfNumber, refusalOfBytes}
-use Rattle.codec.specs.Writing.{refusalOfWrite}
+use Rattle.codec.specs.Reading.{baselineIn, spareIn, rawIn, refusalOfNumber, refusalOfBytes}
 use Rattle.codec.specs.Examples.{BytesOfEachKind, FirstRefusals}
 
 pub bytes-of-each-kind : BytesOfEachKind
@@ -13,7 +12,7 @@ unfolding recordNumber bytesOf
 bytes-of-each-kind = record { baseline = refl; visit = refl; statuses = refl; therapy = refl; death = refl }
 
 pub first-refusals : FirstRefusals
-unfolding leapYear daysInMonth dateExists setBeyond outsideLimits notZero refusalOfRead bytesNumber spareIn rawIn refusalOfNumber refusalOfBytes refusalOfWrite
+unfolding leapYear daysInMonth dateExists wrongSize setBeyond withoutDisease outsideLimits notZero refusalOfRead bytesNumber baselineIn spareIn rawIn refusalOfNumber refusalOfBytes
 first-refusals =
     record {
       noBytes = refl;
@@ -21,7 +20,5 @@ first-refusals =
       kind0 = refl;
       kind5 = refl;
       noDate = refl;
-      badIntoShort = refl;
-      intoTen = refl;
-      intoEleven = refl;
+      spareBit = refl;
     }

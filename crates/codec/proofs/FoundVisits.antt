@@ -8,11 +8,10 @@ use native.Mathlib.Omega.{arith}
 use lib.Dec.{eqb}
 use lib.ListN.{length}
 use borrow.Author.Tests.{eq-eqb, eqb-true, eqb-false, not-true}
-use Rattle.laws.specs.Choice.{both, pick}
+use Rattle.laws.specs.Choice.{pick}
 use Rattle.laws.proofs.Tests.{both-true}
 use Rattle.packing.specs.Layout.{AreBytes}
 use Rattle.dates.specs.declared.Date.{Date}
-use Rattle.records.specs.declared.Entry.{Entry}
 use Rattle.records.specs.declared.Entry.the-variants as E
 use Rattle.records.specs.declared.VisitEntry.{VisitEntry}
 use Rattle.records.specs.Form.{dateOf, kindNumber}
@@ -21,7 +20,7 @@ use Rattle.codec.specs.Bytes.{recordLength, bytesNumber}
 use Rattle.codec.specs.Reading.{baselineIn, visitIn, spareIn, dateIn, kindIn, rawIn, refusalOfNumber, refusalOfBytes, recordOfBytes}
 use Rattle.codec.specs.Visits.{visitEntryIn, isVisitIn}
 use Rattle.codec.specs.declared.Raw.{Raw}
-use Rattle.codec.proofs.WrittenBack.{Fine, fine, eleven, no-refusal}
+use Rattle.codec.proofs.Fine.{fine, eleven, no-refusal}
 
 pub visit-entry : (n : ℕ) → visitIn n .read .entry ≡ E.Visit (visitEntryIn n)
 unfolding visitIn visitEntryIn

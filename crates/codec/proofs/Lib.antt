@@ -2,9 +2,6 @@ pub mod AtTheEdges
 pub mod Window
 pub mod Visits
 pub mod Returns
-pub mod Parts
-pub mod ReadBack
 pub mod Found
-pub mod WrittenBack
+pub mod Fine
 pub mod FoundVisits
-pub mod RoundTrip

@@ -1,32 +1,23 @@
--- What reading and writing answer, from what the code found.
+-- What reading answers, from what the code found.
 -- Assumes nothing.
-use mathlib.Core.Path.{_≡_, refl, sym, _∙_, ap}
+use mathlib.Core.Path.{_≡_, sym, _∙_, ap}
 use mathlib.Core.Bool.{Bool, true, false, not}
-use mathlib.Core.List.{List, _++_}
-use Prim.Native.Nat.{ℕ, suc, _≤_, _<_}
+use mathlib.Core.List.{List}
+use Prim.Native.Nat.{ℕ, suc}
 use native.Mathlib.Omega.{arith}
-use lib.ListN.{length, drop}
-use borrow.Author.Tests.{eq-eqb, ne-eqb, lt-ltb, le-ltb}
-use Rattle.laws.specs.Choice.{either}
+use lib.ListN.{length}
+use borrow.Author.Tests.{eq-eqb, ne-eqb}
 use Rattle.packing.specs.Layout.{AreBytes}
-use Rattle.dates.specs.Calendar.{dateExists}
-use Rattle.dates.specs.declared.Date.{Date}
-use Rattle.records.specs.Form.{dateOf, Five}
-use Rattle.records.specs.Refusals.{checkNumber, outsideLimits, notZero, firstOwn, refusalOfRead, refusalOf}
-use Rattle.records.specs.declared.Entry.the-variants as E
-use Rattle.records.specs.declared.VisitEntry.{VisitEntry}
+use Rattle.records.specs.Refusals.{checkNumber}
 use Rattle.records.specs.declared.Record.{Record}
 use Rattle.records.specs.declared.CheckAnswer.{CheckAnswer}
 use Rattle.records.specs.declared.CheckAnswer.the-variants as C
-use Rattle.codec.specs.Bytes.{recordLength, bytesNumber, bytesOf}
+use Rattle.codec.specs.Bytes.{recordLength, bytesNumber}
 use Rattle.codec.specs.Fields.{fieldAt}
-use Rattle.codec.specs.Reading.{readNumber, isKind, visitIn, rawIn, refusalOfRaw, refusalOfNumber, refusalOfBytes, blank, recordOfBytes, JudgesRead, Reads}
-use Rattle.codec.specs.Writing.{writeNumber, refusalOfWrite, outputOf, Writes}
+use Rattle.codec.specs.Reading.{readNumber, isKind, rawIn, refusalOfRaw, refusalOfNumber, refusalOfBytes, blank, recordOfBytes, JudgesRead, Reads}
 use Rattle.codec.specs.declared.Raw.{Raw}
 use Rattle.codec.specs.declared.ReadAnswer.the-variants as R
 use Rattle.codec.specs.declared.ReadResult.{ReadResult}
-use Rattle.codec.specs.declared.WriteAnswer.{WriteAnswer}
-use Rattle.codec.specs.declared.WriteAnswer.the-variants as W
 
 -- ---- judging what was read: `search` finds the premises by itself
 
@@ -73,33 +64,3 @@ module _ (s : List ℕ) (x : ReadResult) (b : AreBytes s) where
       reads-judged h w we j =
           let q : refusalOfBytes s ≡ refusalOfRaw w = rw (eq-eqb (length s) recordLength l, ← ke, ← known-e, h, we) in
           record { answer = j .answer ∙ sym q; found = j .found ∙ rw (q, ← ke, we); octets = b }
-
--- ---- writing
-
-module _ (r : Record) (out : List ℕ) (a : CheckAnswer) (f : Five r) (e : checkNumber a ≡ refusalOf r) where
-  pub writes-refused : (k : CheckAnswer) (x : WriteAnswer) (n : ℕ) → a ≡ k → checkNumber k ≡ suc n → writeNumber x ≡ suc n → Writes r out x out
-  unfolding refusalOfWrite outputOf
-  writes-refused k x n p c y =
-      let q : refusalOf r ≡ suc n = sym e ∙ ap checkNumber p ∙ c in
-      let z = ne-eqb (suc n) 0 (omega arith) in
-      record { answer = rw (q, z) y; left = rw (q, z, z); five = f }
-
-  module _ (p : a ≡ C.Passed) where
-    passed : refusalOf r ≡ 0
-    passed = sym e ∙ ap checkNumber p
-
-    pub writes-short : length out < recordLength → Writes r out W.ShortOutput out
-    unfolding refusalOfWrite outputOf
-    writes-short h = record {
-      answer = rw (passed, lt-ltb (length out) recordLength h);
-      left = rw (passed, lt-ltb (length out) recordLength h);
-      five = f;
-    }
-
-    pub writes-stored : (last : List ℕ) → recordLength ≤ length out → last ≡ bytesOf r ++ drop recordLength out → Writes r out W.Done last
-    unfolding refusalOfWrite outputOf
-    writes-stored last h l = record {
-      answer = rw (passed, le-ltb (length out) recordLength h);
-      left = l ∙ rw (passed, le-ltb (length out) recordLength h);
-      five = f;
-    }

@@ -10,7 +10,7 @@ use lib.Dec.{ltb, leb, eqb}
 use lib.ListN.{length, getD, List·getD-eq-default}
 use lib.Pow.{shr-shr}
 use borrow.Author.Tests.{eqb-true, eqb-false, le-leb, lt-leb, eq-eqb, ne-eqb}
-use Rattle.laws.specs.Choice.{both, pick}
+use Rattle.laws.specs.Choice.{both}
 use Rattle.laws.proofs.Tests.{not-ltb, zero-eqb}
 use Rattle.packing.specs.Layout.{AreBytes}
 use Rattle.codec.specs.Bytes.{recordLength, bytesNumber}

@@ -1,5 +1,5 @@
 -- Document 01, "Dates and records": the bytes of a record of each kind, worked out by hand from the widths, and the numbers of the statuses; and "Where a
--- call stops", which of 1 to 6 comes first. Proved in proofs/AtTheEdges.antt.
+-- call stops", which of 1 to 5 comes first. Proved in proofs/AtTheEdges.antt.
 -- Assumes nothing.
 use mathlib.Core.Path.{_≡_}
 use mathlib.Core.Bool.{true, false}
@@ -12,7 +12,6 @@ use Rattle.records.specs.declared.Status.{Status}
 use Rattle.records.specs.declared.Status.the-variants as S
 use Rattle.codec.specs.Bytes.{recordLength, bytesOf}
 use Rattle.codec.specs.Reading.{refusalOfBytes}
-use Rattle.codec.specs.Writing.{refusalOfWrite}
 
 -- 11 bytes, the first of them as given
 abbrev pub eleven : List ℕ → List ℕ
@@ -33,13 +32,12 @@ pub record BytesOfEachKind : Type 0 where
   pub therapy : bytesOf (therapyDated (ymd 2020 2 20)) ≡ eleven (0x6F ∷ 0xC8 ∷ 0x54 ∷ [])
   pub death : bytesOf (deathDated (ymd 2020 2 20)) ≡ eleven (0x8F ∷ 0xC8 ∷ 0x54 ∷ [])
 
--- 1 before 2, 2 before 3, and 6 behind 3 to 5
+-- 1 before 2, 2 before 3
 pub record FirstRefusals : Type 0 where
   pub noBytes : refusalOfBytes [] ≡ 1
   pub twelveBytes : refusalOfBytes (filled 0 12 []) ≡ 1
   pub kind0 : refusalOfBytes (eleven []) ≡ 2
   pub kind5 : refusalOfBytes (eleven (0xAF ∷ 0xC8 ∷ 0x54 ∷ [])) ≡ 2
   pub noDate : refusalOfBytes (eleven (0x60 ∷ [])) ≡ 3
-  pub badIntoShort : refusalOfWrite (therapyDated (ymd 2021 2 29)) [] ≡ 3
-  pub intoTen : refusalOfWrite (therapyDated (ymd 2020 2 20)) (filled 0 10 []) ≡ 6
-  pub intoEleven : refusalOfWrite (therapyDated (ymd 2020 2 20)) (eleven []) ≡ 0
+  -- the baseline above with its last spare bit set
+  pub spareBit : refusalOfBytes (0x2F ∷ 0xC8 ∷ 0x21 ∷ 0x88 ∷ 0x14 ∷ 0 ∷ 0 ∷ 0 ∷ 0 ∷ 0 ∷ 0x01 ∷ []) ≡ 5

@@ -1,4 +1,4 @@
-// A record as 11 bytes: read from any byte string, written into any lent output (document 01, "Where a call stops", 1 to 6).
+// A record as 11 bytes, read from any byte string (document 01, "Where a call stops", 1 to 5).
 use dates::Date;
 use records::CheckAnswer;
 use records::Record;
@@ -10,11 +10,9 @@ ghost use Rattle.records.specs.Refusals.{checkNumber};
 ghost use Rattle.codec.specs.Reading.{isKind, refusalOfRaw, blank, JudgesRead, Reads};
 ghost use Rattle.codec.specs.Visits.{blankVisit, ReadsHead, ReadsTarget};
 ghost use Rattle.codec.specs.declared.Raw.{Raw};
-ghost use Rattle.codec.specs.Writing.{Writes};
 
 mod fields; // fields.rt: the bits of one field
 mod decode; // decode.rt: bytes to what stands in them, before it is judged
-mod encode; // encode.rt: a record that no refusal meets to bytes
 
 pub enum ReadAnswer {
     Done,
@@ -29,14 +27,6 @@ pub enum ReadAnswer {
 pub struct ReadResult {
     pub answer: ReadAnswer,
     pub found: Record,
-}
-
-pub enum WriteAnswer {
-    Done,
-    NoSuchDate,
-    OutsideLimits,
-    NotZero,
-    ShortOutput,
 }
 
 // What a visit has before its targets, not judged.
@@ -155,26 +145,4 @@ pub fn visit_target(s: &[u8], i: u8) -> VisitTarget
         return decode::no_target();
     }
     decode::target_in(s, i)
-}
-
-pub fn write(r: Record, out: &mut [u8]) -> WriteAnswer
-    ensures { λ a. ⌜ Writes r (now (out .entry)) a (now (out .exit)) ⌝ }
-{
-    match records::check(r) {
-        CheckAnswer::NoSuchDate => WriteAnswer::NoSuchDate,
-        CheckAnswer::OutsideLimits => WriteAnswer::OutsideLimits,
-        CheckAnswer::NotZero => WriteAnswer::NotZero,
-        CheckAnswer::Passed => {
-            if out.len() < RECORD_LENGTH {
-                return WriteAnswer::ShortOutput;
-            }
-            let entry = r.entry;
-            let marks = r.marks;
-            let sizes = r.sizes;
-            let head = encode::head_number(entry);
-            let body = encode::body_number(entry, marks, sizes);
-            encode::store(head, body, out);
-            WriteAnswer::Done
-        }
-    }
 }

@@ -16,7 +16,7 @@ use Rattle.records.specs.declared.Entry.the-variants as E
 use Rattle.records.specs.declared.Record.{Record}
 use Rattle.records.specs.Refusals.{refusalOf}
 use Rattle.codec.specs.Reading.{refusalOfBytes, recordOfBytes}
-use Rattle.codec.proofs.WrittenBack.{found-fine}
+use Rattle.codec.proofs.Fine.{found-fine}
 use Rattle.endpoints.specs.Values.{Outcome, dayValue}
 use Rattle.endpoints.specs.StudyRecords.{Baseline, baseline, fieldsPass, onStudyDays}
 use Rattle.endpoints.specs.Lawful.{Past}

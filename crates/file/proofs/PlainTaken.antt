@@ -24,7 +24,7 @@ use Rattle.codec.specs.Bytes.{recordLength, bytesNumber}
 use Rattle.codec.specs.declared.VisitHead.{VisitHead}
 use Rattle.codec.specs.Reading.{visitIn, refusalOfBytes, recordOfBytes}
 use Rattle.codec.specs.Visits.{visitEntryIn, isVisitIn, markIn, sizeIn, ReadsHead}
-use Rattle.codec.proofs.WrittenBack.{eleven, found-fine}
+use Rattle.codec.proofs.Fine.{eleven, found-fine}
 use Rattle.codec.proofs.FoundVisits.{visit-entry, found-date, VisitFound, visit-found, visit-refusal, visit-record}
 use Rattle.response.specs.declared.Measured.{Measured}
 use Rattle.response.specs.Judging.{Measures}

@@ -1,7 +1,6 @@
 // Where a call stops (document 01): each refusal, the orders in which they are judged, and the longest file. The file `stdout`, to which what is printed
 // is held, is worked out by hand from document 01.
 use codec::ReadAnswer;
-use codec::WriteAnswer;
 use dates::StudyDay;
 use endpoints::MaybeDay;
 use file::FileAnswer;
@@ -12,6 +11,7 @@ use held::Subject;
 use opening::OpenAnswer;
 use placing::AddAnswer;
 use records::Record;
+use writing::WriteAnswer;
 
 fn text(line: &[u8]) {
     io::write_all(libc::STDOUT_FILENO, line);
@@ -172,7 +172,7 @@ fn bytes_of_one() {
     text(b"ten bytes read\n");
     print_read(unread);
     let mut out = [0u8; 10];
-    let unwritten = codec::write(found, &mut out);
+    let unwritten = writing::write(found, &mut out);
     text(b"into ten bytes written\n");
     print_written(unwritten);
 }
@@ -192,7 +192,7 @@ fn own_refusal(name: &[u8], r: Record, held: Subject) {
     print_added(unjudged);
     text(b"\n");
     let mut out = [0u8; 10];
-    let unwritten = codec::write(r, &mut out);
+    let unwritten = writing::write(r, &mut out);
     print_written(unwritten);
 }
 

@@ -9,11 +9,11 @@ use lib.ListN.{length, take, drop}
 use Rattle.records.specs.Refusals.{refusalOf}
 use Rattle.records.specs.declared.Record.{Record}
 use Rattle.records.specs.declared.Entry.the-variants.{Baseline}
 use Rattle.codec.specs.Bytes.{recordLength}
 use Rattle.codec.specs.Reading.{readNumber, Reads}
-use Rattle.codec.specs.Writing.{writeNumber, Writes}
 use Rattle.codec.specs.declared.ReadResult.{ReadResult}
-use Rattle.codec.specs.declared.WriteAnswer.{WriteAnswer}
+use Rattle.writing.specs.Writing.{writeNumber, Writes}
+use Rattle.writing.specs.declared.WriteAnswer.{WriteAnswer}
 
 -- the baseline of the printed example: 2020-01-01, targets 40 and node 20, non-target disease
 abbrev pub printedRecord : Record

@@ -1,13 +1,13 @@
--- `codec::write` meets its contract.
+-- `writing::write` meets its contract.
 -- Assumes nothing.
 use mathlib.Core.Path.{refl, ap, _∙_, sym}
 use borrow.Author.Needs.{needs}
 use Rattle.records.specs.Refusals.{checkNumber}
 use Rattle.records.proofs.Passed.{passes}
-use Rattle.codec.proofs.Returns.{writes-refused, writes-short}
-use Rattle.codec.proofs.Parts.{writes-parts}
-use Rattle.codec.proofs.write.Statement.{statement}
-use Rattle.codec.proofs.write.Tie as tie
+use Rattle.writing.proofs.Returns.{writes-refused, writes-short}
+use Rattle.writing.proofs.Parts.{writes-parts}
+use Rattle.writing.proofs.write.Statement.{statement}
+use Rattle.writing.proofs.write.Tie as tie
 
 pub write-spec : {M : Type 1} → statement M
 write-spec =

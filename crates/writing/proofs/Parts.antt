@@ -3,7 +3,7 @@
 use mathlib.Core.Path.{_≡_, refl, sym, _∙_, ap}
 use mathlib.Core.Bool.{Bool, true, false}
 use mathlib.Core.List.{List, [], _∷_, _++_}
-use Prim.Native.Nat.{ℕ, _+_, _^_, _<_, _≤_}
+use Prim.Native.Nat.{ℕ, _^_, _<_, _≤_}
 use native.Mathlib.Omega.{arith}
 use lib.Dec.{lit<}
 use lib.ListN.{getD, length, drop}
@@ -22,10 +22,10 @@ use Rattle.records.specs.declared.Entry.the-variants.{Baseline, Visit, Therapy,
 use Rattle.records.specs.declared.Status.{Status}
 use Rattle.records.specs.declared.Status.the-variants.{NA, CR, NN, PD, NE}
 use Rattle.records.proofs.Passed.{passes, small-baseline, small-sizes}
 use Rattle.codec.specs.Bytes.{bit, headLayout, targetsLayout, bodyLayout, headFields, targetFields, bodyFields, recordLength, recordNumber, bytesOf}
-use Rattle.codec.specs.Writing.{Writes}
-use Rattle.codec.specs.declared.WriteAnswer.the-variants.{Done}
-use Rattle.codec.proofs.Returns.{writes-stored}
+use Rattle.writing.specs.Writing.{Writes}
+use Rattle.writing.specs.declared.WriteAnswer.the-variants.{Done}
+use Rattle.writing.proofs.Returns.{writes-stored}
 
 bit-lt : (b : Bool) → bit b < 2
 bit-lt true = omega arith

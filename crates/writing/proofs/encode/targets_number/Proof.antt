@@ -1,9 +1,9 @@
--- `codec::encode::targets_number` meets its contract.
+-- `writing::encode::targets_number` meets its contract.
 -- Assumes nothing.
 use native.Mathlib.Omega.{arith}
 use borrow.Author.Needs.{needs}
-use Rattle.codec.proofs.encode.targets_number.Statement.{statement}
-use Rattle.codec.proofs.encode.targets_number.Tie as tie
+use Rattle.writing.proofs.encode.targets_number.Statement.{statement}
+use Rattle.writing.proofs.encode.targets_number.Tie as tie
 
 pub targets-number-spec : {M : Type 1} → statement M
 targets-number-spec =

@@ -1,4 +1,4 @@
--- `codec::encode::store` meets its contract: eleven stores from the front are the list of the eleven bytes.
+-- `writing::encode::store` meets its contract: eleven stores from the front are the list of the eleven bytes.
 -- Assumes nothing.
 use native.Mathlib.Omega.{arith}
 use native.Mathlib.Nat.{div-one}
@@ -7,8 +7,8 @@ use mathlib.Core.List.{_++_}
 use Rattle.packing.specs.Layout.{unpack, bytes}
 use lib.Seq.{sets-eq}
 use borrow.Author.Needs.{needs}
-use Rattle.codec.proofs.encode.store.Statement.{statement}
-use Rattle.codec.proofs.encode.store.Tie as tie
+use Rattle.writing.proofs.encode.store.Statement.{statement}
+use Rattle.writing.proofs.encode.store.Tie as tie
 
 pub store-spec : {M : Type 1} → statement M
 store-spec =

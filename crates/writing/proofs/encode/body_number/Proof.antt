@@ -1,10 +1,10 @@
--- `codec::encode::body_number` meets its contract: no refusal bounds the count and the sizes, so that no sum wraps.
+-- `writing::encode::body_number` meets its contract: no refusal bounds the count and the sizes, so that no sum wraps.
 -- Assumes nothing.
 use native.Mathlib.Omega.{arith}
 use Rattle.records.proofs.Passed.{small-sizes, small-count}
 use borrow.Author.Needs.{needs}
-use Rattle.codec.proofs.encode.body_number.Statement.{statement}
-use Rattle.codec.proofs.encode.body_number.Tie as tie
+use Rattle.writing.proofs.encode.body_number.Statement.{statement}
+use Rattle.writing.proofs.encode.body_number.Tie as tie
 
 pub body-number-spec : {M : Type 1} → statement M
 body-number-spec =

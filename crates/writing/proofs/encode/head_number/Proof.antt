@@ -1,9 +1,9 @@
--- `codec::encode::head_number` meets its contract.
+-- `writing::encode::head_number` meets its contract.
 -- Assumes nothing.
 use native.Mathlib.Omega.{arith}
 use borrow.Author.Needs.{needs}
-use Rattle.codec.proofs.encode.head_number.Statement.{statement}
-use Rattle.codec.proofs.encode.head_number.Tie as tie
+use Rattle.writing.proofs.encode.head_number.Statement.{statement}
+use Rattle.writing.proofs.encode.head_number.Tie as tie
 
 pub head-number-spec : {M : Type 1} → statement M
 head-number-spec =

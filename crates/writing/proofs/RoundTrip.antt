@@ -8,13 +8,14 @@ use borrow.Author.Tests.{le-ltb}
 use Rattle.dates.specs.Calendar.{leapYear, daysInMonth, dateExists}
 use Rattle.records.specs.Refusals.{wrongSize, setBeyond, withoutDisease, outsideLimits, notZero, refusalOfRead, refusalOf}
 use Rattle.records.specs.declared.Record.{Record}
 use Rattle.codec.specs.Bytes.{recordLength, recordNumber, bytesOf, bytesNumber}
 use Rattle.codec.specs.Reading.{baselineIn, rawIn, refusalOfNumber, refusalOfBytes, recordOfBytes}
-use Rattle.codec.specs.Writing.{writeNumber, refusalOfWrite, outputOf, Writes}
-use Rattle.codec.specs.Laws.{printedRecord, printedBytes, RoundTrips}
-use Rattle.codec.specs.declared.WriteAnswer.{WriteAnswer}
-use Rattle.codec.proofs.ReadBack.{no-refusal-back, record-back}
-use Rattle.codec.proofs.WrittenBack.{found-fine, bytes-back}
+use Rattle.codec.proofs.Fine.{found-fine}
+use Rattle.writing.specs.Writing.{writeNumber, refusalOfWrite, outputOf, Writes}
+use Rattle.writing.specs.Laws.{printedRecord, printedBytes, RoundTrips}
+use Rattle.writing.specs.declared.WriteAnswer.{WriteAnswer}
+use Rattle.writing.proofs.ReadBack.{no-refusal-back, record-back}
+use Rattle.writing.proofs.WrittenBack.{bytes-back}
 
 -- a record that no refusal meets, written where there is room
 module _ (r : Record) (out last : List ℕ) (a : WriteAnswer) (fine : refusalOf r ≡ 0) (room : recordLength ≤ length out) (w : Writes r out a last) where

@@ -10,9 +10,9 @@ use Rattle.laws.specs.Choice.{pick}
 use Rattle.records.specs.Form.{Five}
 use Rattle.records.specs.Refusals.{refusalOf}
 use Rattle.records.specs.declared.Record.{Record}
 use Rattle.codec.specs.Bytes.{recordLength, bytesOf}
-use Rattle.codec.specs.declared.WriteAnswer.{WriteAnswer}
-use Rattle.codec.specs.declared.WriteAnswer.the-variants.{Done, NoSuchDate, OutsideLimits, NotZero, ShortOutput}
+use Rattle.writing.specs.declared.WriteAnswer.{WriteAnswer}
+use Rattle.writing.specs.declared.WriteAnswer.the-variants.{Done, NoSuchDate, OutsideLimits, NotZero, ShortOutput}
 
 -- the number of each case in document 01; 0 where no refusal meets
 abbrev pub writeNumber : WriteAnswer → ℕ

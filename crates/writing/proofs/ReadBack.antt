@@ -20,10 +20,9 @@ use Rattle.records.specs.declared.Entry.the-variants.{Baseline, Visit, Therapy,
 use Rattle.records.specs.declared.Status.{Status}
 use Rattle.records.specs.declared.Status.the-variants.{NA, CR, NN, PD, NE}
 use Rattle.records.proofs.Passed.{passes, clear-target}
 use Rattle.codec.specs.Bytes.{recordLength, bit, headLayout, bodyLayout, headFields, targetFields, bodyFields, layoutOf, fieldsOf, recordNumber, bytesOf, bytesNumber}
 use Rattle.codec.specs.Reading.{isOne, dateFrom, marksFrom, sizesFrom, statusFrom, baselineFrom, visitFrom, spareFrom, baselineIn, visitIn, spareIn, rawIn, kindIn, refusalOfNumber, refusalOfBytes, recordOfBytes}
-use Rattle.codec.specs.declared.Raw.{Raw}
-use Rattle.codec.proofs.Parts.{status-le, kind-range, head-fits, body-fits}
+use Rattle.writing.proofs.Parts.{status-le, kind-range, head-fits, body-fits}
 
 isOne-bit : (b : Bool) → isOne (bit b) ≡ b
 isOne-bit true = refl
@@ -37,9 +36,9 @@ status-back NN = refl
 status-back PD = refl
 status-back NE = refl
 
--- a record as it is read where nothing is out of place
-abbrev full : Entry → List Bool → List ℕ → Raw
-full e m s = record { read = record { entry = e; sizes = s; marks = m }; badstatus = false; spare = false }
+-- a number is read as a record, and nothing is out of place
+abbrev ReadAs : Entry → List Bool → List ℕ → ℕ → Type 0
+ReadAs e m s n = rawIn (kindNumber e) n ≡ record { read = record { entry = e; sizes = s; marks = m }; badstatus = false; spare = false }
 
 module _ (m : List Bool) (s : List ℕ) (lm : length m ≡ 5) (ls : length s ≡ 5) where
   sizes-back : sizesFrom (targetFields m s) ≡ s
@@ -60,7 +59,7 @@ module _ (m : List Bool) (s : List ℕ) (lm : length m ≡ 5) (ls : length s ≡
 
   -- the fields are read as the record
   fields-back : (e : Entry) (n : ℕ) → notZero e m s ≡ false →
-      unpack (layoutOf e) n ≡ fieldsOf e m s → rawIn (kindNumber e) n ≡ full e m s
+      unpack (layoutOf e) n ≡ fieldsOf e m s → ReadAs e m s n
   unfolding rawIn baselineIn visitIn spareIn notZero
   fields-back (Baseline b) n z u =
       ap baselineFrom u ∙ rw (isOne-bit (b .assessed), isOne-bit (b .nontarget), sizes-back, marks-back)
@@ -105,7 +104,7 @@ module _ (r : Record) (five : Five r) (fine : refusalOf r ≡ 0) where
   kind-read : kindIn (bytesNumber (bytesOf r)) ≡ kindNumber (r .entry)
   kind-read = rw number-back (kind-back (r .marks) (r .sizes) (five .marks) (five .sizes) (r .entry) _ fields-of-number)
 
-  raw-read : rawIn (kindNumber (r .entry)) (bytesNumber (bytesOf r)) ≡ full (r .entry) (r .marks) (r .sizes)
+  raw-read : ReadAs (r .entry) (r .marks) (r .sizes) (bytesNumber (bytesOf r))
   raw-read =
       rw number-back
       (fields-back (r .marks) (r .sizes) (five .marks) (five .sizes) (r .entry) _ (passes r false false fine .zeros) fields-of-number)

@@ -1,0 +1,11 @@
+-- The examples are computed by the definitions. By its name this file is checked first, so that a wrong definition is refused at an example.
+-- Assumes nothing.
+use mathlib.Core.Path.{refl}
+use Rattle.dates.specs.Calendar.{leapYear, daysInMonth, dateExists}
+use Rattle.records.specs.Refusals.{setBeyond, outsideLimits, notZero, refusalOfRead}
+use Rattle.writing.specs.Writing.{refusalOfWrite}
+use Rattle.writing.specs.Examples.{FirstRefusals}
+
+pub first-refusals : FirstRefusals
+unfolding leapYear daysInMonth dateExists setBeyond outsideLimits notZero refusalOfRead refusalOfWrite
+first-refusals = record { badIntoShort = refl; intoTen = refl; intoEleven = refl }

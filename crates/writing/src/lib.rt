@@ -1,0 +1,37 @@
+// A record as 11 bytes, written into any lent output (document 01, "Where a call stops", 3 to 6). That reading and writing undo each other is proved here.
+use codec::RECORD_LENGTH;
+use records::CheckAnswer;
+use records::Record;
+ghost use Rattle.writing.specs.Writing.{Writes};
+
+mod encode; // encode.rt: a record that no refusal meets to bytes
+
+pub enum WriteAnswer {
+    Done,
+    NoSuchDate,
+    OutsideLimits,
+    NotZero,
+    ShortOutput,
+}
+
+pub fn write(r: Record, out: &mut [u8]) -> WriteAnswer
+    ensures { λ a. ⌜ Writes r (now (out .entry)) a (now (out .exit)) ⌝ }
+{
+    match records::check(r) {
+        CheckAnswer::NoSuchDate => WriteAnswer::NoSuchDate,
+        CheckAnswer::OutsideLimits => WriteAnswer::OutsideLimits,
+        CheckAnswer::NotZero => WriteAnswer::NotZero,
+        CheckAnswer::Passed => {
+            if out.len() < RECORD_LENGTH {
+                return WriteAnswer::ShortOutput;
+            }
+            let entry = r.entry;
+            let marks = r.marks;
+            let sizes = r.sizes;
+            let head = encode::head_number(entry);
+            let body = encode::body_number(entry, marks, sizes);
+            encode::store(head, body, out);
+            WriteAnswer::Done
+        }
+    }
+}
