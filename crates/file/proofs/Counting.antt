@@ -3,10 +3,10 @@
 use mathlib.Core.Path.{_≡_, refl, sym, _∙_, ap}
 use mathlib.Core.Bool.{Bool, true, false, not}
 use mathlib.Core.List.{List, [], _∷_}
-use Prim.Native.Nat.{ℕ, _≤_, _<_}
+use Prim.Native.Nat.{ℕ, _<_}
 use native.Mathlib.Omega.{arith}
 use lib.Dec.{ltb, leb, eqb, lit<}
-use borrow.Author.Tests.{lt-leb, lt-ltb, eqb-true, not-true, not-false}
+use borrow.Author.Tests.{lt-leb, eqb-true, not-true, not-false}
 use Rattle.laws.specs.Choice.{both, either, pick, all, some}
 use Rattle.laws.proofs.Tests.{both-true, both-with-true, either-with-true, either-with-false, not-ltb, zero-eqb, never}
 use Rattle.laws.proofs.Every.{all-at, all-same, all-both, not-some}

@@ -1,13 +1,13 @@
 -- A later record is taken as the bytes are read and the record placed: a plain visit is one that no refusal meets, and no other visit is.
 -- Assumes nothing.
-use mathlib.Core.Path.{_≡_, refl, sym, _∙_, ap, subst}
+use mathlib.Core.Path.{_≡_, refl, sym, _∙_, ap}
 use mathlib.Core.Bool.{Bool, true, false, not}
 use mathlib.Core.List.{List, [], _∷_}
 use Prim.Native.Nat.{ℕ, _+_, _-_, _<_}
 use native.Mathlib.Omega.{arith}
 use lib.Dec.{leb, ltb, eqb}
 use lib.ListN.{length}
-use borrow.Author.Tests.{eq-eqb, ne-eqb, eqb-true, eqb-false, ltb-true, not-false, not-true}
+use borrow.Author.Tests.{eq-eqb, eqb-true, ltb-true, not-false, not-true}
 use Rattle.laws.specs.Choice.{both, either, pick}
 use Rattle.laws.proofs.Tests.{both-true, either-false, never}
 use Rattle.dates.specs.declared.Date.{Date}
@@ -18,15 +18,13 @@ use Rattle.records.specs.declared.Entry.{Entry}
 use Rattle.records.specs.declared.Entry.the-variants as E
 use Rattle.records.specs.declared.VisitEntry.{VisitEntry}
 use Rattle.records.specs.declared.Record.{Record}
-use Rattle.records.specs.Form.{dateOf}
 use Rattle.records.specs.Refusals.{largeMeasured, sizedUnmeasured, someTarget, outsideLimits, notZero, firstOwn, refusalOfRead, refusalOf}
 use Rattle.codec.specs.Bytes.{recordLength, bytesNumber}
 use Rattle.codec.specs.declared.VisitHead.{VisitHead}
 use Rattle.codec.specs.Reading.{visitIn, refusalOfBytes, recordOfBytes}
 use Rattle.codec.specs.Visits.{visitEntryIn, isVisitIn, markIn, sizeIn, ReadsHead}
 use Rattle.codec.proofs.Fine.{eleven, found-fine}
-use Rattle.codec.proofs.FoundVisits.{visit-entry, found-date, VisitFound, visit-found, visit-refusal, visit-record}
-use Rattle.response.specs.declared.Measured.{Measured}
+use Rattle.codec.proofs.FoundVisits.{found-date, visit-found, visit-refusal, visit-record}
 use Rattle.response.specs.Judging.{Measures}
 use Rattle.endpoints.specs.StudyRecords.{studyDay}
 use Rattle.endpoints.specs.Values.{isRecorded, dayValue}
@@ -40,7 +38,6 @@ use Rattle.placing.proofs.Follow.{visit-follows}
 use Rattle.outcome.specs.Promises.{refusalOnDay, addedOnDay}
 use Rattle.file.specs.declared.PlainVisit.{PlainVisit}
 use Rattle.file.specs.declared.TakenRecord.{TakenRecord}
-use Rattle.file.specs.File.{afterReading}
 use Rattle.file.specs.Plain.{marksIn, sizesIn, someBroken, targetsPass, JudgesPlain}
 use Rattle.file.specs.Taking.{linesOnDay, refusalTaking, TakesOther, Takes}
 use Rattle.file.proofs.Follows.{none-read}

@@ -6,10 +6,9 @@ use held::Subject;
 use response::Measured;
 ghost use mathlib.Core.Path.{_≡_};
 ghost use mathlib.Core.Bool.{false};
-ghost use Prim.Native.Nat.{ℕ};
+ghost use Prim.Native.Nat.{_<_};
 ghost use lib.Dec.{ltb};
 ghost use Rattle.laws.specs.Choice.{either};
-ghost use Rattle.codec.specs.Visits.{markIn, sizeIn};
 ghost use Rattle.file.specs.Plain.{isClear, clearFrom, MeasuresGiven, MeasuresTargets, JudgesPlain};
 
 fn not_plain() -> PlainVisit
@@ -62,67 +61,52 @@ fn measured(
     }
 }
 
+// Three targets or more.
+fn by_larger_count(count: u8, nodes: [bool; 5], part: &[u8]) -> PlainVisit
+    requires { ⌜ 2 < count ⌝ }
+    ensures { λ x. ⌜ MeasuresTargets count nodes (now (part .entry)) x ⌝ }
+{
+    let a = codec::visit_target(part, 0);
+    let b = codec::visit_target(part, 1);
+    let c = codec::visit_target(part, 2);
+    if count == 3 {
+        let marks = [a.measured, b.measured, c.measured, false, false];
+        let sizes = [a.size, b.size, c.size, 0, 0];
+        return measured(count, nodes, marks, sizes, clear_from(part, 3));
+    }
+    let d = codec::visit_target(part, 3);
+    if count == 4 {
+        let marks = [a.measured, b.measured, c.measured, d.measured, false];
+        let sizes = [a.size, b.size, c.size, d.size, 0];
+        return measured(count, nodes, marks, sizes, clear_from(part, 4));
+    }
+    let e = codec::visit_target(part, 4);
+    let marks = [a.measured, b.measured, c.measured, d.measured, e.measured];
+    let sizes = [a.size, b.size, c.size, d.size, e.size];
+    measured(count, nodes, marks, sizes, clear_from(part, 5))
+}
+
 // By the count, so that the targets beyond it are only tested to be clear.
 fn by_count(count: u8, nodes: [bool; 5], part: &[u8]) -> PlainVisit
     ensures { λ x. ⌜ MeasuresTargets count nodes (now (part .entry)) x ⌝ }
 {
     if count == 0 {
-        return measured(
-            count,
-            nodes,
-            [false, false, false, false, false],
-            [0, 0, 0, 0, 0],
-            clear_from(part, 0),
-        );
+        let marks = [false, false, false, false, false];
+        return measured(count, nodes, marks, [0, 0, 0, 0, 0], clear_from(part, 0));
     }
     let a = codec::visit_target(part, 0);
     if count == 1 {
-        return measured(
-            count,
-            nodes,
-            [a.measured, false, false, false, false],
-            [a.size, 0, 0, 0, 0],
-            clear_from(part, 1),
-        );
+        let marks = [a.measured, false, false, false, false];
+        let sizes = [a.size, 0, 0, 0, 0];
+        return measured(count, nodes, marks, sizes, clear_from(part, 1));
     }
     let b = codec::visit_target(part, 1);
     if count == 2 {
-        return measured(
-            count,
-            nodes,
-            [a.measured, b.measured, false, false, false],
-            [a.size, b.size, 0, 0, 0],
-            clear_from(part, 2),
-        );
+        let marks = [a.measured, b.measured, false, false, false];
+        let sizes = [a.size, b.size, 0, 0, 0];
+        return measured(count, nodes, marks, sizes, clear_from(part, 2));
     }
-    let c = codec::visit_target(part, 2);
-    if count == 3 {
-        return measured(
-            count,
-            nodes,
-            [a.measured, b.measured, c.measured, false, false],
-            [a.size, b.size, c.size, 0, 0],
-            clear_from(part, 3),
-        );
-    }
-    let d = codec::visit_target(part, 3);
-    if count == 4 {
-        return measured(
-            count,
-            nodes,
-            [a.measured, b.measured, c.measured, d.measured, false],
-            [a.size, b.size, c.size, d.size, 0],
-            clear_from(part, 4),
-        );
-    }
-    let e = codec::visit_target(part, 4);
-    measured(
-        count,
-        nodes,
-        [a.measured, b.measured, c.measured, d.measured, e.measured],
-        [a.size, b.size, c.size, d.size, e.size],
-        clear_from(part, 5),
-    )
+    by_larger_count(count, nodes, part)
 }
 
 pub(crate) fn plain_visit(s: Subject, day: StudyDay, head: VisitHead, part: &[u8]) -> PlainVisit

@@ -1,11 +1,10 @@
 -- A visit that none of 9 to 11 meets: it may follow, and no target beyond the count is measured.
 -- Assumes nothing.
-use mathlib.Core.Path.{_≡_, refl, _∙_}
+use mathlib.Core.Path.{_≡_, refl}
 use mathlib.Core.Bool.{Bool, true, false, not}
 use mathlib.Core.List.{List}
-use Prim.Native.Nat.{ℕ}
-use lib.Dec.{ltb, leb, eqb}
-use Rattle.laws.specs.Choice.{both, pick}
+use lib.Dec.{ltb, eqb}
+use Rattle.laws.specs.Choice.{both}
 use Rattle.laws.proofs.Tests.{not-ltb}
 use Rattle.dates.specs.declared.StudyDay.{StudyDay}
 use Rattle.records.specs.declared.Entry.the-variants as E

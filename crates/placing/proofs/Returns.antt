@@ -8,7 +8,6 @@ use native.Mathlib.Omega.{arith}
 use lib.Dec.{leb, ltb, eqb}
 use borrow.Author.Tests.{ne-eqb}
 use Rattle.laws.specs.Choice.{pick}
-use Rattle.laws.proofs.Tests.{never}
 use Rattle.dates.specs.declared.Date.{Date}
 use Rattle.dates.specs.declared.StudyDay.{StudyDay}
 use Rattle.dates.specs.declared.StudyDayAnswer.{StudyDayAnswer}

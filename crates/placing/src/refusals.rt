@@ -150,7 +150,8 @@ fn place_death(s: Subject, day: StudyDay) -> PlaceResult
     advanced(dead)
 }
 
-// A record that is no visit; of a visit its refusal alone, so that nothing else of it stands beside what `visited` makes.
+// A record that is no visit, and of a visit its refusal alone: a visit that none meets is placed by `visited`. Neither the own refusals nor 12, which no subject of a
+// file meets, are judged here.
 pub fn place_other(s: Subject, day: StudyDay, r: Record) -> PlaceResult
     ensures { λ x. ⌜ PlacesOther s day (r .entry) (r .marks) x ⌝ }
 {
@@ -178,7 +179,7 @@ fn place_on(s: Subject, day: StudyDay, r: Record) -> PlaceResult
     }
 }
 
-// Neither the record's own refusals nor 12 are judged here: `add` judges them before, and 12 meets no subject of a file.
+// Neither the record's own refusals nor 12 are judged here: `add` judges them before.
 pub fn place(s: Subject, r: Record) -> PlaceResult
     ensures { λ x. ⌜ Places s r x ⌝ }
 {

@@ -1,15 +1,19 @@
 -- The number of the first refusal that meets a record, from what the tests of the code say: `search` finds the premises by itself.
 -- Assumes nothing.
-use mathlib.Core.Path.{_≡_, refl, sym, _∙_}
+use mathlib.Core.Path.{_≡_, refl, sym}
 use mathlib.Core.Bool.{Bool, true, false, not}
+use mathlib.Core.List.{List}
 use Prim.Native.Nat.{ℕ}
 use lib.Dec.{ltb}
 use Rattle.laws.specs.Choice.{either, pick}
-use Rattle.laws.proofs.Tests.{either-with-true, either-with-false, either-false}
+use Rattle.laws.proofs.Tests.{either-with-false}
 use Rattle.dates.specs.Calendar.{dateExists}
 use Rattle.dates.specs.declared.Date.{Date}
 use Rattle.records.specs.Form.{dateOf}
-use Rattle.records.specs.Refusals.{largestSize, largeMeasured, sizedUnmeasured, outsideLimits, notZero, refusalOfRead}
+use Rattle.records.specs.Refusals.{largestSize, largeMeasured, sizedUnmeasured, someTarget, outsideLimits, notZero, refusalOfRead}
+use Rattle.records.specs.declared.Entry.{Entry}
+use Rattle.records.specs.declared.Entry.the-variants.{Visit}
+use Rattle.records.specs.declared.VisitEntry.{VisitEntry}
 use Rattle.records.specs.declared.Record.{Record}
 
 -- 4, then 5
@@ -38,15 +42,15 @@ unfolding largeMeasured sizedUnmeasured
 beyond-mark true size = sym (either-with-false (ltb largestSize size))
 beyond-mark false size = refl
 
--- a visit's refusal, where f says that some target breaks 4 and g that some breaks 5
-module _ (n : ℕ) (badstatus spare f g : Bool) where
-  module _ (u : badstatus ≡ false) (e : Bool) (ee : e ≡ either f g) where
-    pub visit-broken : e ≡ true → (l : Bool) → l ≡ f → n ≡ firstOfFields l true → n ≡ firstOfFields (either badstatus f) (either spare g)
-    visit-broken t l le ne = rw u (go f g (sym ee ∙ t) (rw le at ne))
-      where
-        go : (a b : Bool) → either a b ≡ true → n ≡ firstOfFields a true → n ≡ firstOfFields a (either spare b)
-        go true b q m = m
-        go false b q m = rw (q, either-with-true spare) m
+-- a visit's refusal, where one test says that some target breaks 4 and another that some breaks 4 or 5
+visit-fields : (n : ℕ) (spare large sized l e : Bool) → l ≡ large → e ≡ either large sized → n ≡ firstOfFields l (either spare e) →
+    n ≡ firstOfFields large (either spare sized)
+visit-fields n spare true sized l e lq eq h = rw lq at h
+visit-fields n spare false sized l e lq eq h = rw (lq, eq) at h
 
-    pub visit-unbroken : e ≡ false → n ≡ firstOfFields false spare → n ≡ firstOfFields (either badstatus f) (either spare g)
-    visit-unbroken t ne = let p = either-false f g (sym ee ∙ t) in rw (u, p .0, p .1, either-with-false spare) ne
+pub visit-checked : (e : Entry) (v : VisitEntry) (marks : List Bool) (sizes : List ℕ) (spare l b : Bool) (n : ℕ) → e ≡ Visit v →
+    l ≡ someTarget (λ (i : ℕ). largeMeasured) marks sizes →
+    b ≡ either (someTarget (λ (i : ℕ). largeMeasured) marks sizes) (someTarget (λ (i : ℕ). sizedUnmeasured) marks sizes) → n ≡ firstOfFields l (either spare b) →
+    n ≡ firstOfFields (outsideLimits e marks sizes) (either spare (notZero e marks sizes))
+unfolding outsideLimits notZero
+visit-checked e v marks sizes spare l b n q lq bq h = rw q (visit-fields n spare _ _ l b lq bq h)

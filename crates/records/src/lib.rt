@@ -114,20 +114,6 @@ fn first_of(outside: bool, set: bool) -> CheckAnswer
     CheckAnswer::Passed
 }
 
-// Refusals 4 and 5 of a visit. One test passes most visits: a target that is too large for its mark breaks 4 where it is measured, and
-// 5 where it is not.
-fn check_visit(badstatus: bool, marks: [bool; 5], sizes: [u16; 5], spare: bool) -> CheckAnswer
-    ensures { λ c. ⌜ ((v : VisitEntry) → checkNumber c ≡ firstOwn false (either badstatus (outsideLimits (Visit v) marks sizes)) (either spare (notZero (Visit v) marks sizes))) ⌝ }
-{
-    if badstatus {
-        return CheckAnswer::OutsideLimits;
-    }
-    if targets::some_beyond_mark(marks, sizes) {
-        return first_of(targets::some_large_measured(marks, sizes), true);
-    }
-    first_of(false, spare)
-}
-
 // Refusals 4 and 5, with a spare bit that is set beside them.
 fn check_fields(entry: Entry, marks: [bool; 5], sizes: [u16; 5], spare: bool) -> CheckAnswer
     ensures { λ c. ⌜ checkNumber c ≡ firstOwn false (outsideLimits entry marks sizes) (either spare (notZero entry marks sizes)) ⌝ }
@@ -139,7 +125,13 @@ fn check_fields(entry: Entry, marks: [bool; 5], sizes: [u16; 5], spare: bool) ->
                 spare | not_zero(b, marks, sizes),
             )
         }
-        Entry::Visit(_) => check_visit(false, marks, sizes, spare),
+        // Where 4 does not meet, a size beyond its mark is one that is not measured.
+        Entry::Visit(_) => {
+            first_of(
+                targets::some_large_measured(marks, sizes),
+                spare | targets::some_beyond_mark(marks, sizes),
+            )
+        }
         Entry::Therapy(_) => first_of(false, spare | targets::some_set_beyond(0, marks, sizes)),
         Entry::Death(_) => first_of(false, spare | targets::some_set_beyond(0, marks, sizes)),
     }

@@ -2,6 +2,7 @@
 -- Assumes nothing.
 use borrow.Author.Needs.{needs}
 use Rattle.records.specs.Refusals.{outsideLimits, notZero}
+use Rattle.records.proofs.Returns.{visit-checked}
 use Rattle.records.proofs.check_fields.Statement.{statement}
 use Rattle.records.proofs.check_fields.Tie as tie
 
@@ -15,6 +16,8 @@ check-fields-spec =
     (λ c κs. search needs)
     (λ c. search needs)
     (λ c κs. search needs)
+    (λ c κs. search needs)
+    (λ c κs. search needs)
     (λ c. search needs)
     (λ c κs. search needs)
     (λ c κs. search needs)
@@ -22,6 +25,6 @@ check-fields-spec =
     (λ c κs. search needs)
     (λ c κs. search needs)
     (λ c. rw (c .before .before .before .before .entry .given .1, ← c .before .before .outside-limits .ensures, ← c .before .not-zero .ensures) (c .first-of .ensures))
-    (λ c. rw (c .before .enum-told .given .1) (c .check-visit .ensures _))
-    (λ c. unfold outsideLimits notZero in rw (c .before .before .enum-told2 .given .1, ← c .before .some-set-beyond .ensures) (c .first-of2 .ensures))
-    (λ c. unfold outsideLimits notZero in rw (c .before .before .enum-told3 .given .1, ← c .before .some-set-beyond2 .ensures) (c .first-of3 .ensures)))
+    (λ c. search visit-checked)
+    (λ c. unfold outsideLimits notZero in rw (c .before .before .enum-told2 .given .1, ← c .before .some-set-beyond .ensures) (c .first-of3 .ensures))
+    (λ c. unfold outsideLimits notZero in rw (c .before .before .enum-told3 .given .1, ← c .before .some-set-beyond2 .ensures) (c .first-of4 .ensures)))

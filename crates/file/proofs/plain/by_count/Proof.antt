@@ -3,7 +3,7 @@
 use mathlib.Core.Path.{refl}
 use borrow.Author.Needs.{needs}
 use native.Mathlib.Omega.{arith}
-use Rattle.file.proofs.Counting.{counted, counted-all}
+use Rattle.file.proofs.Counting.{counted}
 use Rattle.file.proofs.plain.by_count.Statement.{statement}
 use Rattle.file.proofs.plain.by_count.Tie as tie
 
@@ -22,15 +22,5 @@ by-count-spec =
     (λ c κs. search needs)
     (λ c κs. search needs)
     (λ c. counted _ _ 2 _ _ _ _ _ (c .measured3 .ensures) (c .before .clear-from3 .ensures) (c .before .before .if3 .taken) (rw (c .before .before .before .before .before .visit-target .ensures .measured, c .before .before .before .visit-target2 .ensures .measured)) (rw (c .before .before .before .before .before .visit-target .ensures .size, c .before .before .before .visit-target2 .ensures .size)))
-    (λ c κs. search needs)
-    (λ c κs. search needs)
-    (λ c κs. search needs)
-    (λ c. counted _ _ 3 _ _ _ _ _ (c .measured4 .ensures) (c .before .clear-from4 .ensures) (c .before .before .if4 .taken) (rw (c .before .before .before .before .before .before .before .visit-target .ensures .measured, c .before .before .before .before .before .visit-target2 .ensures .measured, c .before .before .before .visit-target3 .ensures .measured)) (rw (c .before .before .before .before .before .before .before .visit-target .ensures .size, c .before .before .before .before .before .visit-target2 .ensures .size, c .before .before .before .visit-target3 .ensures .size)))
-    (λ c κs. search needs)
-    (λ c κs. search needs)
-    (λ c κs. search needs)
-    (λ c. counted _ _ 4 _ _ _ _ _ (c .measured5 .ensures) (c .before .clear-from5 .ensures) (c .before .before .if5 .taken) (rw (c .before .before .before .before .before .before .before .before .before .visit-target .ensures .measured, c .before .before .before .before .before .before .before .visit-target2 .ensures .measured, c .before .before .before .before .before .visit-target3 .ensures .measured, c .before .before .before .visit-target4 .ensures .measured)) (rw (c .before .before .before .before .before .before .before .before .before .visit-target .ensures .size, c .before .before .before .before .before .before .before .visit-target2 .ensures .size, c .before .before .before .before .before .visit-target3 .ensures .size, c .before .before .before .visit-target4 .ensures .size)))
-    (λ c κs. search needs)
-    (λ c κs. search needs)
-    (λ c κs. search needs)
-    (λ c. counted-all _ _ _ _ _ _ _ (c .measured6 .ensures) (c .before .clear-from6 .ensures) (omega (arith, c .before .before .before .before .before .before .before .before .before .before .before .if1 .left, c .before .before .before .before .before .before .before .before .before .if2 .left, c .before .before .before .before .before .before .before .if3 .left, c .before .before .before .before .before .if4 .left, c .before .before .before .if5 .left)) (rw (c .before .before .before .before .before .before .before .before .before .before .visit-target .ensures .measured, c .before .before .before .before .before .before .before .before .visit-target2 .ensures .measured, c .before .before .before .before .before .before .visit-target3 .ensures .measured, c .before .before .before .before .visit-target4 .ensures .measured, c .before .before .visit-target5 .ensures .measured)) (rw (c .before .before .before .before .before .before .before .before .before .before .visit-target .ensures .size, c .before .before .before .before .before .before .before .before .visit-target2 .ensures .size, c .before .before .before .before .before .before .visit-target3 .ensures .size, c .before .before .before .before .visit-target4 .ensures .size, c .before .before .visit-target5 .ensures .size))))
+    (λ c κs. omega (arith, c .if3 .left, c .before .before .if2 .left, c .before .before .before .before .if1 .left))
+    (λ c. c .by-larger-count .ensures))
