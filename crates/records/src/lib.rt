@@ -5,8 +5,7 @@ ghost use mathlib.Core.Bool.{false};
 ghost use Rattle.laws.specs.Choice.{either};
 ghost use Rattle.records.specs.Form.{dateOf};
 ghost use Rattle.records.specs.Refusals.{withoutDisease, outsideLimits, notZero, checkNumber, firstOwn, refusalOfRead, refusalOf};
-ghost use Rattle.records.specs.declared.Entry.the-variants.{Baseline, Visit};
-ghost use Rattle.records.specs.declared.VisitEntry.{VisitEntry};
+ghost use Rattle.records.specs.declared.Entry.the-variants.{Baseline};
 
 mod targets; // targets.rt: what some of the five targets breaks
 
