@@ -15,7 +15,6 @@ use Rattle.records.specs.Refusals.{mostTargets, largeMeasured, sizedUnmeasured}
 use Rattle.dates.specs.declared.StudyDay.{StudyDay}
 use Rattle.codec.specs.declared.VisitHead.{VisitHead}
 use Rattle.codec.specs.Visits.{markIn, sizeIn}
-use Rattle.response.specs.Judging.{Measures}
 use Rattle.endpoints.specs.Lawful.{measuredBeyond}
 use Rattle.held.specs.declared.Subject.{Subject}
 use Rattle.placing.specs.Refusals.{mayFollow}
@@ -107,8 +106,7 @@ module _ (s : List ℕ) (count k : ℕ) (nodes marks : List Bool) (sizes : List 
         plain = plain ∙ by-target s k ∙ passes;
         measures = λ h.
             let e = both-true (clearFrom s k) _ (sym plain ∙ h) .0 in
-            let given : Measures count nodes (marksWithin s k) (sizesWithin s k) (x .measured) = rw (me, ze) at (w .measures) in
-            rw (same-marks s k e, same-sizes s k e) at given;
+            w .measures ∙ rw (me, ze, same-marks s k e, same-sizes s k e);
       }
 
   -- a count below five

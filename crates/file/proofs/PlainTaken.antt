@@ -25,16 +25,15 @@ use Rattle.codec.specs.Reading.{visitIn, refusalOfBytes, recordOfBytes}
 use Rattle.codec.specs.Visits.{visitEntryIn, isVisitIn, markIn, sizeIn, ReadsHead}
 use Rattle.codec.proofs.Fine.{eleven, found-fine}
 use Rattle.codec.proofs.FoundVisits.{found-date, visit-found, visit-refusal, visit-record}
-use Rattle.response.specs.Judging.{Measures}
 use Rattle.endpoints.specs.StudyRecords.{studyDay}
 use Rattle.endpoints.specs.Values.{isRecorded, dayValue}
 use Rattle.endpoints.specs.Lawful.{measuredBeyond, statusFits}
 use Rattle.held.specs.declared.Subject.{Subject}
 use Rattle.placing.specs.declared.PlaceResult.{PlaceResult}
-use Rattle.placing.specs.Added.{heldDay, dayOn, visitAdded, entryAdded}
-use Rattle.placing.specs.Lines.{lineOn, linesOn, Advanced}
+use Rattle.placing.specs.Added.{heldDay, dayOn, measuredAdded, entryAdded}
+use Rattle.placing.specs.Lines.{lineBy, linesOn, Advanced}
 use Rattle.placing.specs.Refusals.{refusalOn, mayFollow, otherAdded}
-use Rattle.placing.proofs.Follow.{visit-follows}
+use Rattle.placing.proofs.Follow.{visit-follows, measured-as}
 use Rattle.outcome.specs.Promises.{refusalOnDay, addedOnDay}
 use Rattle.file.specs.declared.PlainVisit.{PlainVisit}
 use Rattle.file.specs.declared.TakenRecord.{TakenRecord}
@@ -147,12 +146,10 @@ module _ (s : Subject) (part : List ℕ) (head : VisitHead) (day : StudyDay) (p 
     none : refusalTaking s part ≡ 0
     none = rw (eq-eqb (refusalOfBytes part) 0 read) placed
 
-    pub plain-taken : (x : PlaceResult) →
-        ((measured : List Bool) (sizes : List ℕ) → Measures (s .baseline .count) (s .baseline .nodes) measured sizes (p .measured) →
-        Advanced (visitAdded s day (head .entry) measured sizes) (lineOn s day (head .entry) measured sizes ∷ []) x) →
+    pub plain-taken : (x : PlaceResult) → Advanced (measuredAdded s day (head .entry) (p .measured)) (lineBy s day (head .entry) (p .measured) ∷ []) x →
         Takes s part (record { number = 0; subject = x .added .subject; visit = x .visit })
     plain-taken x made =
-        let w = made (marksIn part) (sizesIn part) (pw .measures (not-false (p .plain) h)) in
+        let w = measured-as s day (head .entry) (marksIn part) (sizesIn part) (p .measured) (pw .measures (not-false (p .plain) h)) made in
         let u : Advanced (addedOnDay s (visitRecord part)) (linesOnDay s (visitRecord part)) x = rw (entry-read whole, day-read whole) at w in
         let met = eq-eqb (refusalTaking s part) 0 none in
         record {

@@ -11,7 +11,7 @@ use Rattle.dates.specs.declared.StudyDay.{StudyDay}
 use Rattle.records.specs.Refusals.{mostTargets, largeMeasured, sizedUnmeasured, someTarget}
 use Rattle.codec.specs.declared.VisitHead.{VisitHead}
 use Rattle.codec.specs.Visits.{markIn, sizeIn}
-use Rattle.response.specs.Judging.{Measures}
+use Rattle.response.specs.Judging.{measuredOf}
 use Rattle.endpoints.specs.Lawful.{measuredBeyond}
 use Rattle.held.specs.declared.Subject.{Subject}
 use Rattle.placing.specs.Refusals.{mayFollow}
@@ -42,12 +42,12 @@ targetsPass count marks sizes = not (either (someBroken marks sizes) (measuredBe
 
 pub record MeasuresGiven (count : ℕ) (nodes marks : List Bool) (sizes : List ℕ) (clear : Bool) (x : PlainVisit) : Type 0 where
   pub plain : x .plain ≡ both clear (not (someBroken marks sizes))
-  pub measures : Measures count nodes marks sizes (x .measured)
+  pub measures : x .measured ≡ measuredOf count nodes marks sizes
 
 pub record MeasuresTargets (count : ℕ) (nodes : List Bool) (s : List ℕ) (x : PlainVisit) : Type 0 where
   pub plain : x .plain ≡ targetsPass count (marksIn s) (sizesIn s)
-  pub measures : x .plain ≡ true → Measures count nodes (marksIn s) (sizesIn s) (x .measured)
+  pub measures : x .plain ≡ true → x .measured ≡ measuredOf count nodes (marksIn s) (sizesIn s)
 
 pub record JudgesPlain (s : Subject) (day : StudyDay) (head : VisitHead) (part : List ℕ) (x : PlainVisit) : Type 0 where
   pub plain : x .plain ≡ both (head .isvisit) (both (mayFollow s day (head .entry .status)) (targetsPass (s .baseline .count) (marksIn part) (sizesIn part)))
-  pub measures : x .plain ≡ true → Measures (s .baseline .count) (s .baseline .nodes) (marksIn part) (sizesIn part) (x .measured)
+  pub measures : x .plain ≡ true → x .measured ≡ measuredOf (s .baseline .count) (s .baseline .nodes) (marksIn part) (sizesIn part)

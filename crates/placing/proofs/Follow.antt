@@ -1,17 +1,26 @@
--- A visit that none of 9 to 11 meets: it may follow, and no target beyond the count is measured.
+-- A visit that none of 9 to 11 meets: it may follow, and no target beyond the count is measured. What its sizes come to is all that it adds by them.
 -- Assumes nothing.
 use mathlib.Core.Path.{_≡_, refl}
 use mathlib.Core.Bool.{Bool, true, false, not}
-use mathlib.Core.List.{List}
+use mathlib.Core.List.{List, [], _∷_}
+use Prim.Native.Nat.{ℕ}
 use lib.Dec.{ltb, eqb}
 use Rattle.laws.specs.Choice.{both}
 use Rattle.laws.proofs.Tests.{not-ltb}
 use Rattle.dates.specs.declared.StudyDay.{StudyDay}
 use Rattle.records.specs.declared.Entry.the-variants as E
 use Rattle.records.specs.declared.VisitEntry.{VisitEntry}
+use Rattle.criteria.specs.Targets.{targetAnswer}
+use Rattle.criteria.specs.Nadir.{afterVisit}
+use Rattle.criteria.specs.Change.{changeOf}
+use Rattle.response.specs.declared.Measured.{Measured}
+use Rattle.response.specs.Judging.{measuredOf}
 use Rattle.endpoints.specs.Values.{isRecorded, dayValue}
 use Rattle.endpoints.specs.Lawful.{measuredBeyond, statusFits, fitsBy}
 use Rattle.held.specs.declared.Subject.{Subject}
+use Rattle.placing.specs.declared.PlaceResult.{PlaceResult}
+use Rattle.placing.specs.Added.{answerOn, measuredAdded, visitAdded}
+use Rattle.placing.specs.Lines.{lineBy, lineOn, Advanced}
 use Rattle.placing.specs.Refusals.{refusalBy, refusalOn, mayFollow}
 
 by-parts : (dead later beyond fits : Bool) →
@@ -29,3 +38,9 @@ unfolding refusalOn mayFollow fitsBy
 visit-follows s day v marks =
     rw (← not-ltb (s .latest .0) (day .0))
     (by-parts (isRecorded (dayValue (s .death))) (ltb (s .latest .0) (day .0)) (measuredBeyond (s .baseline .count) marks) (statusFits (s .nontarget) (v .status)))
+
+pub measured-as : (s : Subject) (day : StudyDay) (v : VisitEntry) (measured : List Bool) (sizes : List ℕ) (m : Measured) {x : PlaceResult} →
+    m ≡ measuredOf (s .baseline .count) (s .baseline .nodes) measured sizes → Advanced (measuredAdded s day v m) (lineBy s day v m ∷ []) x →
+    Advanced (visitAdded s day v measured sizes) (lineOn s day v measured sizes ∷ []) x
+unfolding visitAdded answerOn targetAnswer afterVisit changeOf
+measured-as s day v measured sizes m e w = rw e at w

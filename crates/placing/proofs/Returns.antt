@@ -25,7 +25,7 @@ use Rattle.criteria.specs.declared.Overall.{Overall}
 use Rattle.criteria.specs.Words.{statusWord, overallWord}
 use Rattle.response.specs.declared.VisitAnswer.{VisitAnswer}
 use Rattle.response.specs.declared.Measured.{Measured}
-use Rattle.response.specs.Judging.{Measures, JudgesVisit}
+use Rattle.response.specs.Judging.{measuredOf, JudgesVisit}
 use Rattle.endpoints.specs.Values.{isRecorded, dayValue}
 use Rattle.endpoints.specs.Lawful.{measuredBeyond, fitsBy}
 use Rattle.endpoints.specs.Lines.{VisitLine}
@@ -38,8 +38,9 @@ use Rattle.placing.specs.declared.JudgedVisit.{JudgedVisit}
 use Rattle.placing.specs.declared.MaybeVisit.the-variants as J
 use Rattle.placing.specs.declared.PlaceResult.{PlaceResult}
 use Rattle.held.specs.Visits.{eventAfter, countedAfter}
-use Rattle.placing.specs.Added.{heldDay, dayOn, answerOn, visitAdded, therapyAdded, deathAdded}
-use Rattle.placing.specs.Lines.{judgedValues, visitValues, lineJudged, lineOn, Advanced}
+use Rattle.placing.specs.Added.{heldDay, dayOn, answerAdded, measuredAdded, therapyAdded, deathAdded}
+use Rattle.placing.specs.Lines.{judgedValues, visitValues, lineJudged, lineBy, Advanced}
+use Rattle.placing.proofs.Follow.{measured-as}
 use Rattle.placing.specs.Refusals.{addNumber, refusalBy, refusalOn, mayFollow, Behind, PlacesLater, PlacesOther, PlacesEntry, Places}
 
 -- ---- whether a status is NA
@@ -90,10 +91,8 @@ pub counted-or-closed : (closed : Bool) (c r : CountingVisits) (d : StudyDay) (a
     r ≡ countedAfter c d (overallWord answer) → r ≡ pick closed c (countedAfter c d (overallWord answer))
 counted-or-closed closed c r d answer q h = h ∙ rw q
 
-pub visit-made : (s : Subject) (day : StudyDay) (v : VisitEntry) (measured : List Bool) (sizes : List ℕ) (a : VisitAnswer) (x : Bool)
-    (e : EventDays) (c : CountingVisits) →
-    JudgesVisit (s .baseline) (s .earlier) v measured sizes a → x ≡ isRecorded (dayValue (s .event .progression)) →
-    e ≡ eventAfter (s .event) day (overallWord (a .overall)) →
+pub visit-made : (s : Subject) (day : StudyDay) (a : VisitAnswer) (x : Bool) (e : EventDays) (c : CountingVisits) →
+    x ≡ isRecorded (dayValue (s .event .progression)) → e ≡ eventAfter (s .event) day (overallWord (a .overall)) →
     c ≡ pick (s .therapy || x) (s .counted) (countedAfter (s .counted) day (overallWord (a .overall))) →
     record {
       randomisation = s .randomisation;
@@ -106,9 +105,8 @@ pub visit-made : (s : Subject) (day : StudyDay) (v : VisitEntry) (measured : Lis
       event = e;
       counted = c;
     }
-    ≡ visitAdded s day v measured sizes
-unfolding visitAdded answerOn
-visit-made s day v measured sizes a x e c j p q r = rw (q, r, p, j .overall, j .after)
+    ≡ answerAdded s day (a .after) (overallWord (a .overall))
+visit-made s day a x e c p q r = rw (q, r, p)
 
 -- ---- study days
 
@@ -128,15 +126,13 @@ on-its-day s r date day x e d w = let q : day ≡ dayOn s r = d ∙ rw e in rw q
 
 -- ---- the line of a visit
 
-pub visited-as : (s : Subject) (day : StudyDay) (v : VisitEntry) (measured : List Bool) (sizes : List ℕ) (a : VisitAnswer) (next : Subject) (j : JudgedVisit) →
-    JudgesVisit (s .baseline) (s .earlier) v measured sizes a → next ≡ visitAdded s day v measured sizes → judgedValues j ≡ lineJudged day (v .status) a →
-    Advanced (visitAdded s day v measured sizes) (lineOn s day v measured sizes ∷ [])
-    (record { added = record { subject = next; answer = A.Done }; visit = J.Judged j })
-unfolding answerOn
-visited-as s day v measured sizes a next j w n l =
+pub visited-as : (s : Subject) (day : StudyDay) (v : VisitEntry) (m : Measured) (a : VisitAnswer) (next : Subject) (j : JudgedVisit) →
+    JudgesVisit (s .baseline) (s .earlier) v m a → next ≡ answerAdded s day (a .after) (overallWord (a .overall)) → judgedValues j ≡ lineJudged day (v .status) a →
+    Advanced (measuredAdded s day v m) (lineBy s day v m ∷ []) (record { added = record { subject = next; answer = A.Done }; visit = J.Judged j })
+visited-as s day v m a next j w n l =
     record {
       answer = refl;
-      left = n;
+      left = n ∙ (λ i. answerAdded s day (w .after i) (w .overall i));
       shown =
           ap (λ (x : VisitLine). x ∷ []) l
           ∙ (λ i. record { day = day .0; target = w .target i; nontarget = statusWord (v .status); overall = w .overall i; change = w .change i } ∷ []);
@@ -190,13 +186,10 @@ module _ (s next : Subject) (lines : List VisitLine) (refusal : ℕ) (a : AddAns
   pub told-placed : n ≡ 0 → (made : Subject) → made ≡ next → Advanced made lines x → Behind s next lines refusal x
   told-placed z made e w = behind-done _ (sym aq ∙ sym nq ∙ z) (rw e at w)
 
-pub visit-placed : (s : Subject) (day : StudyDay) (v : VisitEntry) (marks : List Bool) (sizes : List ℕ) (a : AddAnswer) (n : ℕ) (x : PlaceResult) →
-    n ≡ addNumber a → addNumber a ≡ refusalOn s day (E.Visit v) marks → n ≡ 0 →
-    (m : Measured) → Measures (s .baseline .count) (s .baseline .nodes) marks sizes m →
-    ((measured : List Bool) (l : List ℕ) → Measures (s .baseline .count) (s .baseline .nodes) measured l m →
-    Advanced (visitAdded s day v measured l) (lineOn s day v measured l ∷ []) x) →
-    PlacesEntry s day (E.Visit v) marks sizes x
-visit-placed s day v marks sizes a n x nq aq z m w made = told-placed s _ _ _ a n x nq aq z _ refl (made marks sizes w)
+pub visit-placed : (s : Subject) (day : StudyDay) (v : VisitEntry) (marks : List Bool) (sizes : List ℕ) (a : AddAnswer) (n : ℕ) (m : Measured) (x : PlaceResult) →
+    n ≡ addNumber a → addNumber a ≡ refusalOn s day (E.Visit v) marks → n ≡ 0 → m ≡ measuredOf (s .baseline .count) (s .baseline .nodes) marks sizes →
+    Advanced (measuredAdded s day v m) (lineBy s day v m ∷ []) x → PlacesEntry s day (E.Visit v) marks sizes x
+visit-placed s day v marks sizes a n m x nq aq z e w = told-placed s _ _ _ a n x nq aq z _ refl (measured-as s day v marks sizes m e w)
 
 -- by the record's kind
 module _ (s : Subject) (day : StudyDay) (e : Entry) (marks : List Bool) (x : PlaceResult) where

@@ -13,8 +13,11 @@ use Rattle.records.specs.declared.Record.{Record}
 use Rattle.records.specs.Form.{dateOf}
 use Rattle.criteria.specs.Words.{Word, statusWord}
 use Rattle.criteria.specs.Targets.{targetAnswer}
-use Rattle.criteria.specs.Nadir.{afterVisit}
+use Rattle.criteria.specs.Nadir.{afterSum, afterVisit}
 use Rattle.criteria.specs.Overall.{overallAnswer}
+use Rattle.criteria.specs.declared.Earlier.{Earlier}
+use Rattle.response.specs.declared.Measured.{Measured}
+use Rattle.response.specs.Judging.{targetOf}
 use Rattle.endpoints.specs.declared.MaybeDay.{MaybeDay}
 use Rattle.endpoints.specs.declared.MaybeDay.the-variants as M
 use Rattle.endpoints.specs.Values.{isRecorded, dayValue}
@@ -35,23 +38,36 @@ unfoldable pub answerOn : Subject → VisitEntry → List Bool → List ℕ → 
 answerOn s v measured sizes =
     overallAnswer (s .baseline .assessed) (v .newlesion) (targetAnswer (s .baseline) (s .earlier) measured sizes) (statusWord (v .status))
 
+-- the same from what its sizes come to
+abbrev pub answerBy : Subject → VisitEntry → Measured → Word
+answerBy s v m = overallAnswer (s .baseline .assessed) (v .newlesion) (targetOf (s .baseline) (s .earlier) m) (statusWord (v .status))
+
 -- no further visit counts
 abbrev pub closedOn : Subject → Bool
 closedOn s = either (s .therapy) (isRecorded (dayValue (s .event .progression)))
 
-unfoldable pub visitAdded : Subject → StudyDay → VisitEntry → List Bool → List ℕ → Subject
-visitAdded s day v measured sizes =
+-- from what is left for judging the next visit and the overall answer
+abbrev pub answerAdded : Subject → StudyDay → Earlier → Word → Subject
+answerAdded s day after answer =
     record {
       randomisation = s .randomisation;
       nontarget = s .nontarget;
       baseline = s .baseline;
-      earlier = afterVisit (s .baseline .count) (s .earlier) measured sizes;
+      earlier = after;
       latest = day;
       therapy = s .therapy;
       death = s .death;
-      event = eventAfter (s .event) day (answerOn s v measured sizes);
-      counted = pick (closedOn s) (s .counted) (countedAfter (s .counted) day (answerOn s v measured sizes));
+      event = eventAfter (s .event) day answer;
+      counted = pick (closedOn s) (s .counted) (countedAfter (s .counted) day answer);
     }
+
+-- from what the sizes of the visit come to
+abbrev pub measuredAdded : Subject → StudyDay → VisitEntry → Measured → Subject
+measuredAdded s day v m = answerAdded s day (afterSum (s .earlier) (m .complete) (m .sum)) (answerBy s v m)
+
+-- from what was measured and the sizes
+unfoldable pub visitAdded : Subject → StudyDay → VisitEntry → List Bool → List ℕ → Subject
+visitAdded s day v measured sizes = answerAdded s day (afterVisit (s .baseline .count) (s .earlier) measured sizes) (answerOn s v measured sizes)
 
 -- on a later day, with or without a therapy and a death; nothing of the visits changes
 abbrev pub later : Subject → StudyDay → Bool → MaybeDay → Subject

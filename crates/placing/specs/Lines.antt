@@ -11,8 +11,10 @@ use Rattle.records.specs.declared.Status.{Status}
 use Rattle.records.specs.declared.VisitEntry.{VisitEntry}
 use Rattle.criteria.specs.Words.{targetWord, statusWord, overallWord}
 use Rattle.criteria.specs.Targets.{targetAnswer}
-use Rattle.criteria.specs.Change.{changeValues, changeOf}
+use Rattle.criteria.specs.Change.{changeValues, changeFrom, changeOf}
+use Rattle.response.specs.declared.Measured.{Measured}
 use Rattle.response.specs.declared.VisitAnswer.{VisitAnswer}
+use Rattle.response.specs.Judging.{targetOf}
 use Rattle.endpoints.specs.Lines.{VisitLine}
 use Rattle.held.specs.declared.Subject.{Subject}
 use Rattle.placing.specs.declared.AddAnswer.the-variants as A
@@ -20,7 +22,7 @@ use Rattle.placing.specs.declared.JudgedVisit.{JudgedVisit}
 use Rattle.placing.specs.declared.MaybeVisit.{MaybeVisit}
 use Rattle.placing.specs.declared.MaybeVisit.the-variants as J
 use Rattle.placing.specs.declared.PlaceResult.{PlaceResult}
-use Rattle.placing.specs.Added.{answerOn}
+use Rattle.placing.specs.Added.{answerOn, answerBy}
 
 -- the declared cases
 abbrev pub judgedValues : JudgedVisit → VisitLine
@@ -46,6 +48,17 @@ lineJudged day status a =
       nontarget = statusWord status;
       overall = overallWord (a .overall);
       change = changeValues (a .change);
+    }
+
+-- from what the sizes of the visit come to
+abbrev pub lineBy : Subject → StudyDay → VisitEntry → Measured → VisitLine
+lineBy s day v m =
+    record {
+      day = day .0;
+      target = targetOf (s .baseline) (s .earlier) m;
+      nontarget = statusWord (v .status);
+      overall = answerBy s v m;
+      change = changeFrom (s .baseline) (m .complete) (m .sum);
     }
 
 abbrev pub lineOn : Subject → StudyDay → VisitEntry → List Bool → List ℕ → VisitLine

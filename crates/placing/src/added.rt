@@ -17,16 +17,12 @@ use response::Measured;
 use response::VisitAnswer;
 use results::is_recorded;
 ghost use mathlib.Core.Path.{_≡_};
-ghost use mathlib.Core.Bool.{Bool};
-ghost use mathlib.Core.List.{List, [], _∷_};
-ghost use Prim.Native.Nat.{ℕ};
+ghost use mathlib.Core.List.{[], _∷_};
 ghost use Rattle.laws.specs.Choice.{pick};
 ghost use Rattle.criteria.specs.Words.{overallWord};
-ghost use Rattle.records.specs.declared.VisitEntry.{VisitEntry};
-ghost use Rattle.response.specs.Judging.{Measures, JudgesVisit};
 ghost use Rattle.held.specs.Visits.{countedAfter};
-ghost use Rattle.placing.specs.Added.{visitAdded, therapyAdded, deathAdded};
-ghost use Rattle.placing.specs.Lines.{judgedValues, lineJudged, lineOn, Advanced};
+ghost use Rattle.placing.specs.Added.{answerAdded, measuredAdded, therapyAdded, deathAdded};
+ghost use Rattle.placing.specs.Lines.{judgedValues, lineJudged, lineBy, Advanced};
 
 fn counted_unless(closed: bool, c: CountingVisits, day: StudyDay, answer: Overall) -> CountingVisits
     ensures { λ r. ⌜ r ≡ pick closed c (countedAfter c day (overallWord answer)) ⌝ }
@@ -38,7 +34,7 @@ fn counted_unless(closed: bool, c: CountingVisits, day: StudyDay, answer: Overal
 }
 
 fn with_visit(s: Subject, day: StudyDay, judged: VisitAnswer) -> Subject
-    ensures { λ r. ⌜ ((v : VisitEntry) (measured : List Bool) (sizes : List ℕ) → JudgesVisit (s .baseline) (s .earlier) v measured sizes judged → r ≡ visitAdded s day v measured sizes) ⌝ }
+    ensures { λ r. ⌜ r ≡ answerAdded s day (judged .after) (overallWord (judged .overall)) ⌝ }
 {
     let randomisation = s.randomisation;
     let baseline = s.baseline;
@@ -81,7 +77,7 @@ fn line_of(day: StudyDay, status: Status, judged: VisitAnswer) -> JudgedVisit
 
 // The subject after a visit, and its line, from what its sizes come to.
 pub fn visited(s: Subject, day: StudyDay, v: VisitEntry, m: Measured) -> PlaceResult
-    ensures { λ x. ⌜ ((measured : List Bool) (sizes : List ℕ) → Measures (s .baseline .count) (s .baseline .nodes) measured sizes m → Advanced (visitAdded s day v measured sizes) (lineOn s day v measured sizes ∷ []) x) ⌝ }
+    ensures { λ x. ⌜ Advanced (measuredAdded s day v m) (lineBy s day v m ∷ []) x ⌝ }
 {
     let status = v.status;
     let baseline = s.baseline;

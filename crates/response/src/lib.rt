@@ -6,10 +6,8 @@ use criteria::Overall;
 use criteria::Target;
 use records::BaselineEntry;
 use records::VisitEntry;
-ghost use mathlib.Core.Bool.{Bool};
-ghost use mathlib.Core.List.{List};
-ghost use Prim.Native.Nat.{ℕ};
-ghost use Rattle.response.specs.Judging.{JudgesBaseline, Measures, JudgesVisit};
+ghost use mathlib.Core.Path.{_≡_};
+ghost use Rattle.response.specs.Judging.{JudgesBaseline, measuredOf, JudgesVisit};
 
 mod sums; // sums.rt: sums of sizes, and whether every target is measured
 mod targets; // targets.rt: the target answer
@@ -57,7 +55,7 @@ pub struct Measured {
 }
 
 pub fn measure(count: u8, nodes: [bool; 5], measured: [bool; 5], sizes: [u16; 5]) -> Measured
-    ensures { λ m. ⌜ Measures count nodes measured sizes m ⌝ }
+    ensures { λ m. ⌜ m ≡ measuredOf count nodes measured sizes ⌝ }
 {
     let sum = sums::measured_sum(measured, sizes);
     let complete = sums::all_measured(count, measured);
@@ -76,7 +74,7 @@ pub fn judge_visit(
     entry: VisitEntry,
     m: Measured,
 ) -> VisitAnswer
-    ensures { λ r. ⌜ ((measured : List Bool) (sizes : List ℕ) → Measures (baseline .count) (baseline .nodes) measured sizes m → JudgesVisit baseline earlier entry measured sizes r) ⌝ }
+    ensures { λ r. ⌜ JudgesVisit baseline earlier entry m r ⌝ }
 {
     let status = entry.status;
     let target = targets::target_answer(baseline, earlier, m.sum, m.complete, m.gone);

@@ -3,12 +3,8 @@ use criteria::BaselineDisease;
 use criteria::Earlier;
 use criteria::Target;
 ghost use mathlib.Core.Path.{_≡_};
-ghost use mathlib.Core.Bool.{Bool};
-ghost use mathlib.Core.List.{List};
-ghost use Prim.Native.Nat.{ℕ};
 ghost use Rattle.criteria.specs.Words.{targetWord};
-ghost use Rattle.criteria.specs.Sums.{measuredSum, allMeasured};
-ghost use Rattle.criteria.specs.Targets.{gone, allGone, grown, shrunk, targetAnswer};
+ghost use Rattle.criteria.specs.Targets.{gone, allGone, grown, shrunk, targetBy};
 
 // The short axis in millimetres up to which a node is normal.
 const NORMAL_NODE: u16 = 9;
@@ -62,7 +58,7 @@ pub(crate) fn target_answer(
     complete: bool,
     gone: bool,
 ) -> Target
-    ensures { λ r. ⌜ ((measured : List Bool) (sizes : List ℕ) → sum ≡ measuredSum measured sizes → complete ≡ allMeasured (baseline .count) measured → gone ≡ allGone (baseline .count) (baseline .nodes) sizes → targetWord r ≡ targetAnswer baseline earlier measured sizes) ⌝ }
+    ensures { λ r. ⌜ targetWord r ≡ targetBy baseline earlier sum complete gone ⌝ }
 {
     if baseline.count == 0 {
         return Target::NA;

@@ -12,11 +12,11 @@ judge-visit-spec =
     (λ c κs. search needs)
     (λ c κs. search needs)
     (λ c κs. search needs)
-    (λ c. λ measured sizes w.
-    let t = c .before .before .before .target-answer .ensures _ _ (w .sum) (w .complete) (w .gone) in
+    (λ c.
+    let t = c .before .before .before .target-answer .ensures in
     record {
       target = t;
       overall = rw (← t) (c .before .before .overall-answer .ensures);
-      change = c .before .change-from-baseline .ensures _ _ (w .complete) (w .sum);
-      after = c .after-visit .ensures _ _ _ (w .complete) (w .sum);
+      change = c .before .change-from-baseline .ensures;
+      after = c .after-visit .ensures;
     }))

@@ -11,4 +11,4 @@ measure-spec =
     (λ c κs. search needs)
     (λ c κs. search needs)
     (λ c κs. search needs)
-    (λ c. record { sum = c .before .before .measured-sum .ensures; complete = c .before .all-measured .ensures; gone = c .all-gone .ensures }))
+    (λ c. rw (c .before .before .measured-sum .ensures, c .before .all-measured .ensures, c .all-gone .ensures)))

@@ -12,6 +12,4 @@ visited-spec =
     (λ c κs. search needs)
     (λ c κs. search needs)
     (λ c κs. search needs)
-    (λ c. λ measured sizes w.
-    let j = c .before .before .judge-visit .ensures measured sizes w in
-    visited-as _ _ _ measured sizes _ _ _ j (c .before .with-visit .ensures _ measured sizes j) (c .line-of .ensures)))
+    (λ c. search visited-as))

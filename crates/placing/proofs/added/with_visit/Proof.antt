@@ -12,4 +12,4 @@ with-visit-spec =
     (λ c κs. search needs)
     (λ c κs. search needs)
     (λ c κs. search needs)
-    (λ c. λ v measured sizes w. search visit-made))
+    (λ c. search visit-made))

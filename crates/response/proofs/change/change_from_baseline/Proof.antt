@@ -9,8 +9,8 @@ pub change-from-baseline-spec : {M : Type 1} → statement M
 change-from-baseline-spec =
     tie.close
     (tie.spec
-    (λ c. λ measured sizes me se. search no-targets)
-    (λ c. λ measured sizes me se. search some-unmeasured)
-    (λ c. λ measured sizes me se. search no-baseline-sum)
+    (λ c. search no-targets)
+    (λ c. search some-unmeasured)
+    (λ c. search no-baseline-sum)
     (λ c κs. search needs)
-    (λ c. λ measured sizes me se. search between))
+    (λ c. search between))

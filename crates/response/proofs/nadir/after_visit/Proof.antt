@@ -8,6 +8,6 @@ pub after-visit-spec : {M : Type 1} → statement M
 after-visit-spec =
     tie.close
     (tie.spec
-    (λ c. λ count measured sizes me se. search incomplete)
-    (λ c. λ count measured sizes me se. search not-less)
-    (λ c. λ count measured sizes me se. search least-now))
+    (λ c. search incomplete)
+    (λ c. search not-less)
+    (λ c. search least-now))

@@ -9,11 +9,11 @@ pub target-answer-spec : {M : Type 1} → statement M
 target-answer-spec =
     tie.close
     (tie.spec
-    (λ c. λ measured sizes se me ge. search no-targets)
-    (λ c. λ measured sizes se me ge. search complete)
+    (λ c. search no-targets)
+    (λ c. search complete)
     (λ c κs. search needs)
-    (λ c. λ measured sizes se me ge. search progressive)
-    (λ c. λ measured sizes se me ge. search some-unmeasured)
+    (λ c. search progressive)
+    (λ c. search some-unmeasured)
     (λ c κs. search needs)
-    (λ c. λ measured sizes se me ge. search partly)
-    (λ c. λ measured sizes se me ge. search stable))
+    (λ c. search partly)
+    (λ c. search stable))
