@@ -6,7 +6,7 @@ use mathlib.Core.List.{List, [], _∷_}
 use Prim.Native.Nat.{ℕ, _<_}
 use native.Mathlib.Omega.{arith}
 use lib.Dec.{ltb, leb, eqb, lit<}
-use borrow.Author.Tests.{lt-leb, eqb-true, not-true, not-false}
+use borrow.Author.Tests.{eqb-true, not-true, not-false}
 use Rattle.laws.specs.Choice.{both, either, pick, all, some}
 use Rattle.laws.proofs.Tests.{both-true, both-with-true, either-with-true, either-with-false, not-ltb, zero-eqb, never}
 use Rattle.laws.proofs.Every.{all-at, all-same, all-both, not-some}
@@ -18,6 +18,7 @@ use Rattle.codec.specs.Visits.{markIn, sizeIn}
 use Rattle.endpoints.specs.Lawful.{measuredBeyond}
 use Rattle.held.specs.declared.Subject.{Subject}
 use Rattle.placing.specs.Refusals.{mayFollow}
+use Rattle.placing.proofs.Follow.{none-beyond}
 use Rattle.file.specs.declared.PlainVisit.{PlainVisit}
 use Rattle.file.specs.Plain.{marksIn, sizesIn, isClear, clearFrom, someBroken, targetsPass, MeasuresGiven, MeasuresTargets, JudgesPlain}
 
@@ -113,17 +114,12 @@ module _ (s : List ℕ) (count k : ℕ) (nodes marks : List Bool) (sizes : List 
   pub counted : clear ≡ clearFrom s k → count ≡ k → marks ≡ marksWithin s k → sizes ≡ sizesWithin s k → MeasuresTargets count nodes s x
   counted c e = within-given c (rw e)
 
--- five targets or more: no place is beyond them
-none-beyond : (count : ℕ) (marks : List Bool) → 4 < count → measuredBeyond count marks ≡ false
-unfolding measuredBeyond
-none-beyond count marks h =
-    rw (lt-leb count 0 (omega arith), lt-leb count 1 (omega arith), lt-leb count 2 (omega arith), lt-leb count 3 (omega arith), lt-leb count 4 (omega arith))
-
+-- five targets or more
 pub counted-all : (s : List ℕ) (count : ℕ) (nodes marks : List Bool) (sizes : List ℕ) (clear : Bool) (x : PlainVisit) →
     MeasuresGiven count nodes marks sizes clear x → clear ≡ clearFrom s 5 → 4 < count → marks ≡ marksIn s → sizes ≡ sizesIn s →
     MeasuresTargets count nodes s x
 counted-all s count nodes marks sizes clear x w c h =
-    within-given s count 5 nodes marks sizes clear x w c (none-beyond count (marksIn s) h ∙ sym (none-beyond 5 (marksIn s) (omega arith)))
+    within-given s count 5 nodes marks sizes clear x w c (sym (none-beyond count (marksIn s) h) ∙ none-beyond 5 (marksIn s) (omega arith))
 
 -- ---- whether a visit is plain
 

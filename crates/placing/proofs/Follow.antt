@@ -3,8 +3,10 @@
 use mathlib.Core.Path.{_≡_, refl}
 use mathlib.Core.Bool.{Bool, true, false, not}
 use mathlib.Core.List.{List, [], _∷_}
-use Prim.Native.Nat.{ℕ}
+use Prim.Native.Nat.{ℕ, _<_}
+use native.Mathlib.Omega.{arith}
 use lib.Dec.{ltb, eqb}
+use borrow.Author.Tests.{lt-leb}
 use Rattle.laws.specs.Choice.{both}
 use Rattle.laws.proofs.Tests.{not-ltb}
 use Rattle.dates.specs.declared.StudyDay.{StudyDay}
@@ -22,6 +24,12 @@ use Rattle.placing.specs.declared.PlaceResult.{PlaceResult}
 use Rattle.placing.specs.Added.{answerOn, measuredAdded, visitAdded}
 use Rattle.placing.specs.Lines.{lineBy, lineOn, Advanced}
 use Rattle.placing.specs.Refusals.{refusalBy, refusalOn, mayFollow}
+
+-- with five targets or more, no place is beyond them
+pub none-beyond : (count : ℕ) (measured : List Bool) → 4 < count → false ≡ measuredBeyond count measured
+unfolding measuredBeyond
+none-beyond count measured h =
+    rw (lt-leb count 0 (omega arith), lt-leb count 1 (omega arith), lt-leb count 2 (omega arith), lt-leb count 3 (omega arith), lt-leb count 4 (omega arith))
 
 by-parts : (dead later beyond fits : Bool) →
     eqb (refusalBy dead (not later) (not (both (not beyond) fits))) 0 ≡ both (both (not dead) (both later fits)) (not beyond)
