@@ -2,17 +2,44 @@
 -- Assumes nothing.
 use mathlib.Core.Path.{refl}
 use Rattle.dates.specs.Calendar.{leapYear, daysInMonth, dateExists}
-use Rattle.records.specs.Refusals.{wrongSize, setBeyond, withoutDisease, outsideLimits, notZero, refusalOfRead}
+use Rattle.records.specs.Refusals.{wrongSize, largeMeasured, setBeyond, sizedUnmeasured, withoutDisease, outsideLimits, notZero, refusalOfRead}
 use Rattle.codec.specs.Bytes.{recordNumber, bytesOf, bytesNumber}
-use Rattle.codec.specs.Reading.{baselineIn, spareIn, rawIn, refusalOfNumber, refusalOfBytes}
-use Rattle.codec.specs.Examples.{BytesOfEachKind, FirstRefusals}
+use Rattle.codec.specs.Reading.{statusFrom, baselineIn, visitIn, spareIn, rawIn, refusalOfNumber, refusalOfBytes, recordOfBytes}
+use Rattle.codec.specs.Examples.{BytesOfEachKind, ReadOfEachKind, FirstRefusals}
 
 pub bytes-of-each-kind : BytesOfEachKind
 unfolding recordNumber bytesOf
-bytes-of-each-kind = record { baseline = refl; visit = refl; statuses = refl; therapy = refl; death = refl }
+bytes-of-each-kind =
+    record {
+      printed = refl;
+      targets = refl;
+      withoutNontarget = refl;
+      baselineMissing = refl;
+      visit = refl;
+      measured = refl;
+      statuses = refl;
+      therapy = refl;
+      death = refl;
+    }
+
+pub read-of-each-kind : ReadOfEachKind
+unfolding leapYear daysInMonth dateExists wrongSize largeMeasured setBeyond sizedUnmeasured withoutDisease outsideLimits notZero refusalOfRead bytesNumber statusFrom baselineIn visitIn spareIn rawIn refusalOfNumber refusalOfBytes recordOfBytes
+read-of-each-kind =
+    record {
+      printed = refl;
+      targets = refl;
+      withoutNontarget = refl;
+      baselineMissing = refl;
+      visit = refl;
+      measured = refl;
+      statuses = refl;
+      therapy = refl;
+      death = refl;
+      refused = refl;
+    }
 
 pub first-refusals : FirstRefusals
-unfolding leapYear daysInMonth dateExists wrongSize setBeyond withoutDisease outsideLimits notZero refusalOfRead bytesNumber baselineIn spareIn rawIn refusalOfNumber refusalOfBytes
+unfolding leapYear daysInMonth dateExists wrongSize largeMeasured setBeyond sizedUnmeasured withoutDisease outsideLimits notZero refusalOfRead bytesNumber statusFrom baselineIn visitIn spareIn rawIn refusalOfNumber refusalOfBytes
 first-refusals =
     record {
       noBytes = refl;
@@ -20,5 +47,12 @@ first-refusals =
       kind0 = refl;
       kind5 = refl;
       noDate = refl;
-      spareBit = refl;
+      status5 = refl;
+      spareOfBaseline = refl;
+      spareOfVisit = refl;
+      firstOfTherapy = refl;
+      lastOfTherapy = refl;
+      firstOfDeath = refl;
+      lastOfDeath = refl;
+      numbers = refl;
     }

@@ -6,7 +6,7 @@ use Rattle.criteria.specs.Targets.{allGone, grown, shrunk, targetAnswer}
 use Rattle.criteria.specs.Nadir.{nadirOf}
 use Rattle.criteria.specs.Overall.{overallAnswer}
 use Rattle.criteria.specs.Change.{changeBetween, changeOf}
-use Rattle.criteria.specs.Examples.{Edges, OrdersAndPlaces, GridRows, WrongReadings, Printed}
+use Rattle.criteria.specs.Examples.{Edges, OrdersAndPlaces, GridRows, OverallAlone, Nadirs, WrongReadings, Printed, Changes, WordsOfCases}
 
 pub edges : Edges
 unfolding measuredSum baselineSum allMeasured allGone grown shrunk targetAnswer nadirOf
@@ -44,6 +44,14 @@ pub grid-rows : GridRows
 unfolding overallAnswer
 grid-rows = record { overCR = refl; overNA = refl; overPR = refl; overSD = refl; overNE = refl }
 
+pub overall-alone : OverallAlone
+unfolding measuredSum baselineSum allMeasured allGone grown shrunk targetAnswer nadirOf overallAnswer
+overall-alone = record { newLesion = refl; nontargetPD = refl; withoutNontarget = refl; missing = refl; missingNewLesion = refl }
+
+pub nadirs : Nadirs
+unfolding measuredSum baselineSum allMeasured allGone grown shrunk targetAnswer nadirOf
+nadirs = record { leastOfAll = refl; beforeIncomplete = refl; baselineLeast = refl }
+
 pub wrong-readings : WrongReadings
 unfolding measuredSum baselineSum allMeasured allGone grown shrunk targetAnswer nadirOf overallAnswer
 wrong-readings = record { grownFromNadir = refl; progressionFirst = refl; incompleteSum = refl; oneGone = refl }
@@ -62,3 +70,20 @@ printed-visits =
       overall127 = refl;
       change127 = refl;
     }
+
+pub changes : Changes
+unfolding measuredSum baselineSum allMeasured changeBetween changeOf
+changes =
+    record {
+      oneTarget = refl;
+      noTargets = refl;
+      oneUnmeasured = refl;
+      upwards = refl;
+      downwards = refl;
+      half = refl;
+      lessThanHalf = refl;
+      barelyLess = refl;
+    }
+
+pub words-of-cases : WordsOfCases
+words-of-cases = record { targets = refl; nontargets = refl; overalls = refl; changes = refl }

@@ -14,7 +14,7 @@ use Rattle.criteria.specs.Sums.{measuredSum, allMeasured}
 use Rattle.criteria.specs.Inputs.{Visit}
 use Rattle.criteria.specs.Nadir.{completeSums, leastOf, nadirOf, leftBy, afterVisit}
 use Rattle.criteria.specs.Overall.{isPD, overallAnswer}
-use Rattle.criteria.specs.Change.{none, signed, nearest, changeBetween, changeOf}
+use Rattle.criteria.specs.Change.{none, nearest, changeOf}
 use Rattle.criteria.specs.Visits.{visitTarget, visitOverall, visitChange}
 use Rattle.criteria.specs.Laws.{OverallLaws, leftAfter, NadirLaws, ChangeLaws}
 use Rattle.criteria.specs.declared.BaselineDisease.{BaselineDisease}
@@ -103,14 +103,6 @@ folded b vs = folded-from (b .count) (b .sum) vs
 pub nadir-laws : NadirLaws
 nadir-laws = record { oneMore = one-more; folded = folded }
 
-half : changeBetween 2000 1999 ≡ signed true 1
-unfolding changeBetween
-half = refl
-
-less-than-half : changeBetween 2500 2499 ≡ signed false 0
-unfolding changeBetween
-less-than-half = refl
-
 -- n / d to the nearest, by the quotient and the remainder of 2 × n + d by 2 × d
 rounded : (n d : ℕ) → 1 ≤ d → (2 * d * nearest n d ≤ 2 * n + d) × (2 * n < 2 * d * nearest n d + d)
 rounded n d l =
@@ -128,14 +120,4 @@ unfolding changeOf
 unmeasured b v e = rw (e, either-with-true (eqb (b .count) 0))
 
 pub change-laws : ChangeLaws
-unfolding changeBetween
-change-laws =
-    record {
-      rounded = rounded;
-      half = half;
-      lessThanHalf = less-than-half;
-      upwards = refl;
-      downwards = refl;
-      noTargets = no-targets;
-      unmeasured = unmeasured;
-    }
+change-laws = record { rounded = rounded; noTargets = no-targets; unmeasured = unmeasured }

@@ -1,5 +1,5 @@
--- Document 01, "Examples at the edges", its wrong readings and the printed example, as far as they speak of visits: stated here, proved in
--- proofs/Examples.antt.
+-- Document 01, "Examples at the edges", its wrong readings and the printed example, as far as they speak of visits, cases in which one sentence of "Visit
+-- responses" applies alone, and the words of the declared cases: stated here, proved in proofs/Examples.antt.
 -- Assumes nothing.
 use mathlib.Core.Path.{_≡_}
 use mathlib.Core.Bool.{Bool, true, false}
@@ -9,13 +9,16 @@ use lib.ListN.{length}
 use Rattle.dates.specs.Laws.{ymd}
 use Rattle.records.specs.declared.Status.{Status}
 use Rattle.records.specs.declared.Status.the-variants as S
-use Rattle.criteria.specs.Words.{Word, CR, PR, SD, PD, NE, NA, statusWord}
+use Rattle.criteria.specs.Words.{Word, CR, PR, SD, PD, NE, NA, NN, targetWord, statusWord, overallWord}
 use Rattle.criteria.specs.Inputs.{Visit, diseaseOf}
 use Rattle.criteria.specs.Sums.{measuredSum, baselineSum}
 use Rattle.criteria.specs.Overall.{isPD, overallAnswer, evaluable}
-use Rattle.criteria.specs.Change.{signed}
+use Rattle.criteria.specs.Change.{none, signed, changeValues, changeBetween}
 use Rattle.criteria.specs.Visits.{visitTarget, visitOverall, visitChange}
 use Rattle.criteria.specs.declared.BaselineDisease.{BaselineDisease}
+use Rattle.criteria.specs.declared.Target.the-variants as T
+use Rattle.criteria.specs.declared.Overall.the-variants as O
+use Rattle.criteria.specs.declared.ChangeAnswer.the-variants as C
 
 -- an assessed baseline with non-target disease and these targets; a target without a mark is no node
 abbrev pub baselineWith : List Bool → List ℕ → BaselineDisease
@@ -80,6 +83,30 @@ pub record GridRows : Type 0 where
   pub overSD : row SD ≡ SD ∷ SD ∷ SD ∷ SD ∷ []
   pub overNE : row NE ≡ NE ∷ NE ∷ NE ∷ NE ∷ []
 
+-- one target of 100 at baseline, by assessed and non-target disease, and a visit at which it is 100, by non-target status and new lesion
+abbrev pub oneOf100 : Bool → Bool → BaselineDisease
+oneOf100 assessed nontarget = diseaseOf (record { date = ymd 2020 1 1; assessed = assessed; nontarget = nontarget; count = 1 }) [] (100 ∷ [])
+
+abbrev pub unchanged : Status → Bool → Visit
+unchanged s new = record { status = s; newLesion = new; measured = true ∷ []; sizes = 100 ∷ [] }
+
+-- a new lesion or non-target PD alone gives PD; otherwise the grid; with baseline missing NE, new lesion or not
+pub record OverallAlone : Type 0 where
+  pub newLesion : visitOverall (oneOf100 true true) [] (unchanged S.NN true) ≡ PD
+  pub nontargetPD : visitOverall (oneOf100 true true) [] (unchanged S.PD false) ≡ PD
+  pub withoutNontarget : visitOverall (oneOf100 true false) [] (unchanged S.NA false) ≡ SD
+  pub missing : visitOverall (oneOf100 false false) [] (unchanged S.NA false) ≡ NE
+  pub missingNewLesion : visitOverall (oneOf100 false false) [] (unchanged S.NA true) ≡ NE
+
+-- the least of the baseline sum and the sums of all earlier visits with every target measured: the earlier visits stand newest first
+pub record Nadirs : Type 0 where
+  -- not the last sum, 55, but 50
+  pub leastOfAll : visitTarget (baselineWith [] (100 ∷ [])) (measuring (55 ∷ []) ∷ measuring (50 ∷ []) ∷ []) (measuring (60 ∷ [])) ≡ PD
+  -- 50 of the visit before one with a target unmeasured
+  pub beforeIncomplete : visitTarget (baselineWith [] (60 ∷ 40 ∷ [])) (measuring (30 ∷ []) ∷ measuring (30 ∷ 20 ∷ []) ∷ []) (measuring (40 ∷ 20 ∷ [])) ≡ PD
+  -- the baseline sum, 50, and not 58 of the visit
+  pub baselineLeast : visitTarget (baselineWith [] (50 ∷ [])) (measuring (58 ∷ []) ∷ []) (measuring (60 ∷ [])) ≡ PD
+
 pub record WrongReadings : Type 0 where
   -- growth against baseline alone: the sum is half the baseline's and three times the nadir
   pub grownFromNadir : visitTarget (baselineWith [] (100 ∷ [])) (measuring (15 ∷ []) ∷ []) (measuring (50 ∷ [])) ≡ PD
@@ -113,3 +140,23 @@ pub record Printed : Type 0 where
   pub target127 : visitTarget printed (day85 ∷ day43 ∷ []) day127 ≡ PD
   pub overall127 : visitOverall printed (day85 ∷ day43 ∷ []) day127 ≡ PD
   pub change127 : visitChange printed day127 ≡ signed true 750
+
+-- at a visit with targets, all measured, in tenths of a percent, signed, nearest, halves away from zero; else none
+pub record Changes : Type 0 where
+  pub oneTarget : visitChange (baselineWith [] (100 ∷ [])) (measuring (150 ∷ [])) ≡ signed false 500
+  pub noTargets : visitChange (baselineWith [] []) (measuring []) ≡ none
+  pub oneUnmeasured : visitChange (baselineWith [] (60 ∷ 40 ∷ [])) (measuring (60 ∷ [])) ≡ none
+  -- upwards and downwards: 50.0 % either way
+  pub upwards : changeBetween 100 150 ≡ signed false 500
+  pub downwards : changeBetween 100 50 ≡ signed true 500
+  -- halves away from zero: −0.05 %; zero has no sign: −0.04 % and, just below a half, −0.0499.. %
+  pub half : changeBetween 2000 1999 ≡ signed true 1
+  pub lessThanHalf : changeBetween 2500 2499 ≡ signed false 0
+  pub barelyLess : changeBetween 2001 2000 ≡ signed false 0
+
+-- the words and values of the declared cases
+pub record WordsOfCases : Type 0 where
+  pub targets : map targetWord (T.CR ∷ T.PR ∷ T.SD ∷ T.PD ∷ T.NE ∷ T.NA ∷ []) ≡ CR ∷ PR ∷ SD ∷ PD ∷ NE ∷ NA ∷ []
+  pub nontargets : map statusWord (S.NA ∷ S.CR ∷ S.NN ∷ S.PD ∷ S.NE ∷ []) ≡ NA ∷ CR ∷ NN ∷ PD ∷ NE ∷ []
+  pub overalls : map overallWord (O.CR ∷ O.PR ∷ O.SD ∷ O.PD ∷ O.NE ∷ []) ≡ CR ∷ PR ∷ SD ∷ PD ∷ NE ∷ []
+  pub changes : map changeValues (C.Absent ∷ C.Increase 5 ∷ C.Decrease 5 ∷ []) ≡ none ∷ signed false 5 ∷ signed true 5 ∷ []

@@ -8,7 +8,7 @@ use Rattle.criteria.specs.Words.{PD, NE, statusWord}
 use Rattle.criteria.specs.Sums.{allMeasured}
 use Rattle.criteria.specs.Inputs.{Visit}
 use Rattle.criteria.specs.Nadir.{leftBy, afterVisit}
-use Rattle.criteria.specs.Change.{none, signed, nearest, changeBetween}
+use Rattle.criteria.specs.Change.{none, nearest}
 use Rattle.criteria.specs.Visits.{visitTarget, visitOverall, visitChange}
 use Rattle.criteria.specs.declared.BaselineDisease.{BaselineDisease}
 use Rattle.criteria.specs.declared.Earlier.{Earlier}
@@ -34,12 +34,6 @@ pub record NadirLaws : Type 0 where
 pub record ChangeLaws : Type 0 where
   -- nearest: n / d is from a half below to less than a half above, so that a half is rounded to the larger
   pub rounded : (n d : ℕ) → 1 ≤ d → (2 * d * nearest n d ≤ 2 * n + d) × (2 * n < 2 * d * nearest n d + d)
-  -- halves away from zero: −0.05 %; zero has no sign: −0.04 %
-  pub half : changeBetween 2000 1999 ≡ signed true 1
-  pub lessThanHalf : changeBetween 2500 2499 ≡ signed false 0
-  -- upwards and downwards: 50.0 % either way
-  pub upwards : changeBetween 100 150 ≡ signed false 500
-  pub downwards : changeBetween 100 50 ≡ signed true 500
   -- none without targets, or with one unmeasured
   pub noTargets : (b : BaselineDisease) (v : Visit) → b .count ≡ 0 → visitChange b v ≡ none
   pub unmeasured : (b : BaselineDisease) (v : Visit) → allMeasured (b .count) (v .measured) ≡ false → visitChange b v ≡ none

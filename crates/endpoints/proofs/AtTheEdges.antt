@@ -18,19 +18,24 @@ use Rattle.endpoints.specs.Lines.{lineOf}
 use Rattle.endpoints.specs.Settled.{settledFrom, pfsSettledBy, bestSettledBy, durationSettledBy, pfsSettled, bestSettled, durationSettled}
 use Rattle.endpoints.specs.Adding.{refusalBehind, refusalOfOpening, refusalOfAdding}
 use Rattle.endpoints.specs.Examples.{starred, Hold}
-use Rattle.endpoints.specs.FurtherExamples.{further, PrintedLines, FieldsThatPass}
+use Rattle.endpoints.specs.FurtherExamples.{WordsOfCases, further, PrintedLines, FieldsThatPass}
 use Rattle.endpoints.specs.AddingExamples.{Unlawful, FittingStatuses, OnStudyDays, FirstRefusals}
 
 pub examples-hold : Hold starred × Hold further
 unfolding starred further entryPasses wrongSize largeMeasured setBeyond sizedUnmeasured withoutDisease outsideLimits notZero measuredBeyond fitsBy fits measuredSum baselineSum allMeasured allGone grown shrunk targetAnswer nadirOf overallAnswer judge gapLimit earlyDeath pfs best duration settledFrom pfsSettledBy bestSettledBy durationSettledBy pfsSettled bestSettled durationSettled
 examples-hold = (record { lists = refl; visits = refl; answers = refl }, record { lists = refl; visits = refl; answers = refl })
 
+pub words-of-cases : WordsOfCases
+words-of-cases = record { days = refl; statuses = refl; pfs = refl; best = refl; durations = refl }
+
 pub unlawful : Unlawful
 unfolding measuredBeyond fitsBy fits
 unlawful =
     record {
       nothing = refl;
-      withoutBaseline = refl;
+      visitFirst = refl;
+      therapyFirst = refl;
+      deathFirst = refl;
       secondBaseline = refl;
       afterDeath = refl;
       earlyTherapy = refl;
@@ -39,6 +44,7 @@ unlawful =
       visitOnEarlierLatest = refl;
       visitOnDay1 = refl;
       beyondCount = refl;
+      thirdBeyondCount = refl;
       fifthBeyondCount = refl;
       statusWithoutLesions = refl;
       lesionsWithoutStatus = refl;
@@ -50,10 +56,10 @@ fitting-statuses = record { withLesions = refl; withoutLesions = refl }
 
 pub printed-lines : PrintedLines
 unfolding lineOf measuredSum baselineSum allMeasured allGone grown shrunk targetAnswer nadirOf overallAnswer changeBetween changeOf
-printed-lines = record { inOrder = refl }
+printed-lines = record { inOrder = refl; afterProgression = refl }
 
 pub fields-that-pass : FieldsThatPass
-unfolding entryPasses largeMeasured sizedUnmeasured outsideLimits notZero
+unfolding entryPasses wrongSize largeMeasured setBeyond sizedUnmeasured withoutDisease outsideLimits notZero
 fields-that-pass =
     record {
       largest = refl;
@@ -62,6 +68,7 @@ fields-that-pass =
       fourSizes = refl;
       fourMarks = refl;
       everyRecord = refl;
+      withoutDisease = refl;
     }
 
 pub on-study-days : OnStudyDays
@@ -94,6 +101,7 @@ first-refusals =
       visitOnDay1 = refl;
       therapyOnLatest = refl;
       deathOnLatest = refl;
+      deathBeforeLatest = refl;
       visitOnLatest = refl;
       misfitOnLatest = refl;
       statusNA = refl;

@@ -9,8 +9,7 @@ use lib.ListN.{length}
 use Rattle.laws.specs.Choice.{both}
 use Rattle.records.specs.declared.Status.{Status}
 use Rattle.records.specs.declared.Status.the-variants as S
-use Rattle.records.specs.Refusals.{mostTargets}
-use Rattle.records.specs.Examples.{filled}
+use Rattle.records.specs.Examples.{fivePlaces}
 use Rattle.criteria.specs.Words.{Word, CR, PR, SD, PD, NE}
 use Rattle.criteria.specs.Overall.{isPD}
 use Rattle.criteria.specs.Visits.{visitTarget}
@@ -25,7 +24,7 @@ use Rattle.endpoints.specs.Settled.{outcome}
 -- an assessed baseline: non-target disease or not, which targets are nodes, and the targets' sizes
 abbrev pub withTargets : Bool → List Bool → List ℕ → Baseline
 withTargets nontarget nodes sizes =
-    record { assessed = true; nontarget = nontarget; count = length sizes; nodes = filled false mostTargets nodes; sizes = filled 0 mostTargets sizes }
+    record { assessed = true; nontarget = nontarget; count = length sizes; nodes = fivePlaces false nodes; sizes = fivePlaces 0 sizes }
 
 -- one target of 100 and no other disease
 abbrev pub oneTarget : Baseline
@@ -40,7 +39,7 @@ noTargets = withTargets true [] []
 
 abbrev pub missing : Baseline
 missing =
-    record { assessed = false; nontarget = false; count = 0; nodes = filled false mostTargets []; sizes = filled 0 mostTargets [] }
+    record { assessed = false; nontarget = false; count = 0; nodes = fivePlaces false []; sizes = fivePlaces 0 [] }
 
 -- a visit on a day: non-target status, new lesion, and the sizes of the first targets; the others are not measured
 abbrev pub visitOn : ℕ → Status → Bool → List ℕ → StudyRecord
@@ -49,8 +48,8 @@ visitOn d s new sizes =
     (record {
       status = s;
       newLesion = new;
-      measured = filled false mostTargets (marked sizes);
-      sizes = filled 0 mostTargets sizes;
+      measured = fivePlaces false (marked sizes);
+      sizes = fivePlaces 0 sizes;
     })
 
 -- without non-target lesions: one target measured, and none

@@ -1,19 +1,31 @@
--- Document 01, "Examples at the edges", 7 and 11, the outcome of the printed example, and cases in which one sentence of "Outcome" applies and a similar
--- one does not; proved in proofs/AtTheEdges.antt.
+-- Document 01, "Examples at the edges", 7 and 11, the outcome of the printed example, cases in which one sentence of "Outcome" or "Settled" applies and a
+-- similar one does not, and the words of the declared cases; proved in proofs/AtTheEdges.antt.
 -- Assumes nothing.
 use mathlib.Core.Path.{_≡_}
 use mathlib.Core.Bool.{Bool, true, false}
-use mathlib.Core.List.{List, [], _∷_, reverse}
+use mathlib.Core.List.{List, [], _∷_, map, reverse}
 use Prim.Native.Nat.{ℕ}
 use Rattle.records.specs.declared.Status.the-variants as S
 use Rattle.records.specs.Examples.{filled}
-use Rattle.criteria.specs.Words.{CR, PR, SD, PD, NE, NN}
+use Rattle.criteria.specs.Words.{CR, PR, SD, PD, NE, NA, NN}
 use Rattle.criteria.specs.Change.{signed}
-use Rattle.endpoints.specs.Values.{EVENT, CENSORED, event, censored, forDays}
-use Rattle.endpoints.specs.StudyRecords.{Baseline, StudyRecord, visit, therapy, death, fieldsPass, allPass}
+use Rattle.endpoints.specs.Values.{none, on, EVENT, CENSORED, event, censored, noDuration, forDays, dayValue, wordOfStatus, pfsValues, bestWord, durationValues}
+use Rattle.endpoints.specs.StudyRecords.{Baseline, StudyRecord, baseline, visit, therapy, death, fieldsPass, allPass}
 use Rattle.endpoints.specs.Lawful.{Past}
 use Rattle.endpoints.specs.Lines.{visitLines}
-use Rattle.endpoints.specs.Examples.{oneTarget, withNode, noTargets, missing, visitOn, measuring, unmeasured, Said, is, pfsIs, bestIs, durationIs, pfsOfList, bestOfList, durationOfList, pfsSettledOfList, bestSettledOfList, durationSettledOfList, Example, example}
+use Rattle.endpoints.specs.Examples.{withTargets, oneTarget, withNode, noTargets, missing, visitOn, measuring, unmeasured, Said, is, pfsIs, bestIs, durationIs, pfsOfList, bestOfList, durationOfList, pfsSettledOfList, bestSettledOfList, durationSettledOfList, Example, example}
+use Rattle.endpoints.specs.declared.MaybeDay.the-variants as M
+use Rattle.endpoints.specs.declared.PfsStatus.the-variants as E
+use Rattle.endpoints.specs.declared.BestResponse.the-variants as B
+use Rattle.endpoints.specs.declared.DurationAnswer.the-variants as D
+
+-- the words and values of the declared cases
+pub record WordsOfCases : Type 0 where
+  pub days : map dayValue (M.Absent ∷ M.On (record { 0 = 43 }) ∷ []) ≡ none ∷ on 43 ∷ []
+  pub statuses : map wordOfStatus (E.Event ∷ E.Censored ∷ []) ≡ EVENT ∷ CENSORED ∷ []
+  pub pfs : pfsValues (record { status = E.Censored; day = record { 0 = 43 } }) ≡ censored 43
+  pub best : map bestWord (B.CR ∷ B.PR ∷ B.SD ∷ B.PD ∷ B.NE ∷ []) ≡ CR ∷ PR ∷ SD ∷ PD ∷ NE ∷ []
+  pub durations : map durationValues (D.Absent ∷ D.ForDays (record { status = E.Event; days = 85 }) ∷ []) ≡ noDuration ∷ forDays EVENT 85 ∷ []
 
 -- the visits of the printed example
 abbrev pub visit43 : StudyRecord
@@ -35,6 +47,12 @@ pub record PrintedLines : Type 0 where
       ∷ record { day = 85; target = CR; nontarget = NN; overall = PR; change = signed true 850 }
       ∷ record { day = 127; target = PD; nontarget = NN; overall = PD; change = signed true 750 }
       ∷ []
+  -- a visit after the progression has its line too
+  pub afterProgression : visitLines oneTarget (reverse (measuring 43 90 ∷ measuring 85 200 ∷ measuring 127 0 ∷ []))
+      ≡ record { day = 43; target = SD; nontarget = NA; overall = SD; change = signed true 100 }
+      ∷ record { day = 85; target = PD; nontarget = NA; overall = PD; change = signed false 1000 }
+      ∷ record { day = 127; target = CR; nontarget = NA; overall = CR; change = signed true 1000 }
+      ∷ []
 
 abbrev visitWith : List Bool → List ℕ → StudyRecord
 visitWith measured sizes = visit 43 (record { status = S.NA; newLesion = false; measured = measured; sizes = sizes })
@@ -47,6 +65,7 @@ pub record FieldsThatPass : Type 0 where
   pub fourSizes : fieldsPass (visitWith (filled false 5 []) (filled 0 4 [])) ≡ false
   pub fourMarks : fieldsPass (visitWith (filled false 4 []) (filled 0 5 [])) ≡ false
   pub everyRecord : allPass (measuring 85 90 ∷ measuring 43 501 ∷ []) ≡ false
+  pub withoutDisease : fieldsPass (baseline (withTargets false [] [])) ≡ false
 
 unfoldable pub further : List Example
 further =
@@ -73,6 +92,12 @@ further =
     -- two visits missed: censored at the last evaluable visit and not at v
     ∷ example oneTarget (measuring 43 90 ∷ unmeasured 85 ∷ measuring 300 200 ∷ []) (SD ∷ NE ∷ PD ∷ []) pfsOfList (pfsIs (censored 43))
     ∷ example oneTarget (measuring 43 90 ∷ unmeasured 85 ∷ death 300 ∷ []) (SD ∷ NE ∷ []) pfsOfList (pfsIs (censored 43))
+    -- visits after a therapy are visits: v moves with them, and they are evaluable
+    ∷ example oneTarget (measuring 43 90 ∷ therapy 50 ∷ measuring 141 90 ∷ measuring 200 200 ∷ []) (SD ∷ SD ∷ PD ∷ []) pfsOfList (pfsIs (event 200))
+    ∷ example oneTarget (measuring 43 90 ∷ therapy 50 ∷ measuring 85 90 ∷ measuring 300 200 ∷ []) (SD ∷ SD ∷ PD ∷ []) pfsOfList (pfsIs (censored 85))
+    -- neither a second therapy nor a death after one takes a visit from PFS
+    ∷ example oneTarget (measuring 43 90 ∷ therapy 50 ∷ therapy 60 ∷ []) (SD ∷ []) pfsOfList (pfsIs (censored 43))
+    ∷ example oneTarget (measuring 43 90 ∷ therapy 50 ∷ death 100 ∷ []) (SD ∷ []) pfsOfList (pfsIs (event 100))
     -- a death after an evaluable visit has the gap limits, and a visit on the day of death is v
     ∷ example oneTarget (measuring 119 90 ∷ death 217 ∷ []) (SD ∷ []) pfsOfList (pfsIs (event 217))
     ∷ example oneTarget (measuring 119 90 ∷ death 218 ∷ []) (SD ∷ []) pfsOfList (pfsIs (censored 119))
@@ -96,6 +121,11 @@ further =
     (pfsIs (event 85))
     ∷ example oneTarget (measuring 43 90 ∷ measuring 85 200 ∷ measuring 127 0 ∷ measuring 169 0 ∷ []) (SD ∷ PD ∷ CR ∷ CR ∷ []) bestOfList
     (bestIs SD)
+    -- the nadir is the least of all earlier sums, and not the last one
+    ∷ example oneTarget (measuring 43 50 ∷ measuring 85 55 ∷ measuring 127 60 ∷ []) (PR ∷ PR ∷ PD ∷ []) pfsOfList (pfsIs (event 127))
+    -- non-target PD and a new lesion, each alone, are a progression
+    ∷ example withNode (visitOn 43 S.PD false (40 ∷ 20 ∷ []) ∷ []) (PD ∷ []) pfsOfList (pfsIs (event 43))
+    ∷ example withNode (visitOn 43 S.NN true (40 ∷ 20 ∷ []) ∷ []) (PD ∷ []) pfsOfList (pfsIs (event 43))
     -- a visit moves the nadir, later therapy or progression notwithstanding
     ∷ example oneTarget (measuring 43 50 ∷ therapy 50 ∷ measuring 85 60 ∷ []) (PR ∷ PD ∷ []) pfsOfList (pfsIs (event 85))
     ∷ example oneTarget (measuring 43 90 ∷ measuring 85 200 ∷ measuring 127 50 ∷ measuring 169 60 ∷ []) (SD ∷ PD ∷ PR ∷ PD ∷ []) pfsOfList
@@ -107,6 +137,15 @@ further =
     ∷ example oneTarget (measuring 43 0 ∷ measuring 50 0 ∷ measuring 71 0 ∷ []) (CR ∷ CR ∷ CR ∷ []) bestOfList (bestIs CR)
     ∷ example noTargets (visitOn 43 S.CR false [] ∷ visitOn 57 S.NN false [] ∷ visitOn 71 S.CR false [] ∷ []) (CR ∷ SD ∷ CR ∷ []) bestOfList
     (bestIs PR)
+    -- NE is no CR visit, neither the first nor the second
+    ∷ example oneTarget (unmeasured 43 ∷ measuring 85 0 ∷ []) (NE ∷ CR ∷ []) bestOfList (bestIs SD)
+    ∷ example oneTarget (measuring 43 0 ∷ unmeasured 85 ∷ []) (CR ∷ NE ∷ []) bestOfList (bestIs SD)
+    -- one response with an SD before or behind it is not confirmed; two are, whatever stands before them
+    ∷ example oneTarget (measuring 43 90 ∷ measuring 85 60 ∷ []) (SD ∷ PR ∷ []) bestOfList (bestIs SD)
+    ∷ example oneTarget (measuring 43 60 ∷ measuring 85 71 ∷ []) (PR ∷ SD ∷ []) bestOfList (bestIs SD)
+    ∷ example oneTarget (measuring 43 90 ∷ measuring 85 60 ∷ measuring 127 60 ∷ []) (SD ∷ PR ∷ PR ∷ []) bestOfList (bestIs PR)
+    -- any SD from day 36 on, and not the first visit alone
+    ∷ example oneTarget (measuring 20 90 ∷ measuring 43 90 ∷ []) (SD ∷ SD ∷ []) bestOfList (bestIs SD)
     -- PD confirms no response, and SD no other one; a response that is confirmed stays so
     ∷ example oneTarget (measuring 43 0 ∷ measuring 85 200 ∷ []) (CR ∷ PD ∷ []) bestOfList (bestIs SD)
     ∷ example oneTarget (measuring 43 90 ∷ measuring 85 90 ∷ []) (SD ∷ SD ∷ []) bestOfList (bestIs SD)
@@ -114,9 +153,37 @@ further =
     -- no visit behind a therapy counts, and those before a death do
     ∷ example oneTarget (therapy 20 ∷ measuring 43 90 ∷ measuring 85 90 ∷ []) (SD ∷ SD ∷ []) bestOfList (bestIs NE)
     ∷ example oneTarget (measuring 43 60 ∷ measuring 85 60 ∷ death 90 ∷ []) (PR ∷ PR ∷ []) bestOfList (bestIs PR)
+    -- nor does a therapy or a death behind a therapy or a progression take a counting visit away
+    ∷ example oneTarget (measuring 43 60 ∷ measuring 85 60 ∷ therapy 90 ∷ therapy 95 ∷ []) (PR ∷ PR ∷ []) bestOfList (bestIs PR)
+    ∷ example oneTarget (measuring 43 60 ∷ measuring 85 60 ∷ therapy 90 ∷ death 100 ∷ []) (PR ∷ PR ∷ []) bestOfList (bestIs PR)
+    ∷ example oneTarget (measuring 43 60 ∷ measuring 85 60 ∷ measuring 127 200 ∷ therapy 130 ∷ []) (PR ∷ PR ∷ PD ∷ []) bestOfList (bestIs PR)
+    ∷ example oneTarget (measuring 43 60 ∷ measuring 85 60 ∷ measuring 127 200 ∷ death 130 ∷ []) (PR ∷ PR ∷ PD ∷ []) bestOfList (bestIs PR)
+    -- the first counting CR or PR: not an SD before it, a PR before two CR visits, and no visit behind a confirmed CR
+    ∷ example oneTarget (measuring 43 90 ∷ measuring 85 60 ∷ measuring 127 60 ∷ []) (SD ∷ PR ∷ PR ∷ []) durationOfList
+    (durationIs (forDays CENSORED 43))
+    ∷ example oneTarget (measuring 43 60 ∷ measuring 85 0 ∷ measuring 127 0 ∷ []) (PR ∷ CR ∷ CR ∷ []) durationOfList
+    (durationIs (forDays CENSORED 85))
+    ∷ example oneTarget (measuring 43 0 ∷ measuring 71 0 ∷ measuring 99 0 ∷ []) (CR ∷ CR ∷ CR ∷ []) durationOfList
+    (durationIs (forDays CENSORED 57))
     -- a duration that is censored
     ∷ example oneTarget (measuring 43 0 ∷ measuring 50 0 ∷ measuring 71 0 ∷ []) (CR ∷ CR ∷ CR ∷ []) durationOfList
     (durationIs (forDays CENSORED 29))
+    -- nothing is settled before the first record, nor by a visit of SD
+    ∷ example oneTarget [] [] bestSettledOfList (is false)
+    ∷ example oneTarget (measuring 100 90 ∷ []) (SD ∷ []) pfsSettledOfList (is false)
+    ∷ example oneTarget (measuring 100 90 ∷ []) (SD ∷ []) bestSettledOfList (is false)
+    ∷ example oneTarget (measuring 100 90 ∷ []) (SD ∷ []) durationSettledOfList (is false)
+    -- a death settles all three
+    ∷ example oneTarget (death 50 ∷ []) [] pfsSettledOfList (is true)
+    ∷ example oneTarget (death 50 ∷ []) [] bestSettledOfList (is true)
+    ∷ example oneTarget (death 50 ∷ []) [] durationSettledOfList (is true)
+    -- best response is settled by a therapy and where it is CR, and not where it is PR
+    ∷ example oneTarget (measuring 43 60 ∷ measuring 85 60 ∷ []) (PR ∷ PR ∷ []) bestSettledOfList (is false)
+    ∷ example oneTarget (measuring 43 60 ∷ measuring 85 60 ∷ therapy 90 ∷ []) (PR ∷ PR ∷ []) bestSettledOfList (is true)
+    ∷ example oneTarget (measuring 43 0 ∷ measuring 71 0 ∷ []) (CR ∷ CR ∷ []) bestSettledOfList (is true)
+    -- baseline missing: best response is settled, and a death settles PFS
+    ∷ example missing [] [] bestSettledOfList (is true)
+    ∷ example missing (death 50 ∷ []) [] pfsSettledOfList (is true)
     -- where there is no duration it is settled with best response, and where there is one with PFS
     ∷ example oneTarget (measuring 43 90 ∷ therapy 50 ∷ []) (SD ∷ []) durationSettledOfList (is true)
     ∷ example oneTarget (measuring 43 60 ∷ measuring 85 60 ∷ therapy 90 ∷ []) (PR ∷ PR ∷ []) durationSettledOfList (is false)

@@ -3,7 +3,7 @@
 use mathlib.Core.Path.{refl}
 use Rattle.dates.specs.Calendar.{leapYear, daysInMonth, dateExists}
 use Rattle.records.specs.Refusals.{wrongSize, largeMeasured, setBeyond, sizedUnmeasured, withoutDisease, outsideLimits, notZero, refusalOfRead}
-use Rattle.records.specs.Examples.{OwnRefusals}
+use Rattle.records.specs.Examples.{OwnRefusals, NumbersOfCases}
 
 pub own-refusals : OwnRefusals
 unfolding leapYear daysInMonth dateExists wrongSize largeMeasured setBeyond sizedUnmeasured withoutDisease outsideLimits notZero refusalOfRead
@@ -27,14 +27,22 @@ own-refusals =
       markBeyond = refl;
       sizeBeyond = refl;
       unmeasured = refl;
+      unmeasured1 = refl;
       missingAlone = refl;
       missingNontarget = refl;
-      missingCount = refl;
+      missingCount1 = refl;
+      missingCount7 = refl;
       missingNode = refl;
       missingSize = refl;
       therapyMark = refl;
+      therapyTarget = refl;
+      deathMark = refl;
       deathSize = refl;
+      deathTarget = refl;
       spareBit = refl;
       dateFirst = refl;
       limitsNext = refl;
     }
+
+pub numbers-of-cases : NumbersOfCases
+numbers-of-cases = record { kinds = refl; dates = refl; statuses = refl; refusals = refl }

@@ -1,27 +1,32 @@
--- Document 01, "Dates and records" and "Where a call stops", 3 to 5: records on either side of each limit, and which of the three comes first; proved in
--- proofs/AtTheEdges.antt.
+-- Document 01, "Dates and records" and "Where a call stops", 3 to 5: records on either side of each limit, which of the three comes first, and the numbers
+-- of kinds, statuses and refusals; proved in proofs/AtTheEdges.antt. No example is built with a number that it is to tell: five places are written as 5.
 -- Assumes nothing.
 use mathlib.Core.Path.{_≡_}
 use mathlib.Core.Bool.{Bool, true, false}
-use mathlib.Core.List.{List, [], _∷_}
+use mathlib.Core.List.{List, [], _∷_, map}
 use Prim.Native.Nat.{ℕ, zero, suc}
 use Rattle.dates.specs.Laws.{ymd}
 use Rattle.dates.specs.declared.Date.{Date}
-use Rattle.records.specs.Refusals.{mostTargets, refusalOf, refusalOfRead}
+use Rattle.records.specs.Form.{dateOf, kindNumber, statusNumber}
+use Rattle.records.specs.Refusals.{checkNumber, refusalOf, refusalOfRead}
+use Rattle.records.specs.declared.CheckAnswer.the-variants as C
 use Rattle.records.specs.declared.Entry.{Entry}
 use Rattle.records.specs.declared.Entry.the-variants as E
 use Rattle.records.specs.declared.Record.{Record}
 use Rattle.records.specs.declared.Status.{Status}
 use Rattle.records.specs.declared.Status.the-variants as S
 
--- five places, the first of them as given
+-- so many places, the first of them as given
 abbrev pub filled : {A : Type 0} → A → ℕ → List A → List A
 filled blank zero xs = []
 filled blank (suc n) [] = blank ∷ filled blank n []
 filled blank (suc n) (x ∷ xs) = x ∷ filled blank n xs
 
+abbrev pub fivePlaces : {A : Type 0} → A → List A → List A
+fivePlaces blank xs = filled blank 5 xs
+
 abbrev pub withTargets : Entry → List Bool → List ℕ → Record
-withTargets e marks sizes = record { entry = e; sizes = filled 0 mostTargets sizes; marks = filled false mostTargets marks }
+withTargets e marks sizes = record { entry = e; sizes = fivePlaces 0 sizes; marks = fivePlaces false marks }
 
 -- assessed, non-target disease, count, nodes and sizes
 abbrev pub baselineDated : Date → Bool → Bool → ℕ → List Bool → List ℕ → Record
@@ -47,6 +52,23 @@ visited measured sizes = refusalOf (visitDated (ymd 2020 2 12) S.NN false measur
 abbrev pub missing : Bool → ℕ → List Bool → List ℕ → ℕ
 missing nontarget count nodes sizes = refusalOf (baselineDated (ymd 2020 1 1) false nontarget count nodes sizes)
 
+-- a baseline that counts six targets of 10 and has six places
+abbrev pub sixPlaces : Record
+sixPlaces = record {
+  entry = E.Baseline (record { date = ymd 2020 1 1; assessed = true; nontarget = false; count = 6 });
+  sizes = 10 ∷ 10 ∷ 10 ∷ 10 ∷ 10 ∷ 10 ∷ [];
+  marks = false ∷ false ∷ false ∷ false ∷ false ∷ false ∷ [];
+}
+
+-- an entry of each kind: baseline, visit, therapy, death
+abbrev pub eachKind : Date → List Entry
+eachKind d =
+    E.Baseline (record { date = d; assessed = true; nontarget = true; count = 0 })
+    ∷ E.Visit (record { date = d; status = S.NN; newlesion = false })
+    ∷ E.Therapy d
+    ∷ E.Death d
+    ∷ []
+
 pub record OwnRefusals : Type 0 where
   -- 4: a node from 15, any other target from 10, each to 500
   pub node15 : assessed 1 (true ∷ []) (15 ∷ []) ≡ 0
@@ -58,7 +80,8 @@ pub record OwnRefusals : Type 0 where
   -- every target within the count is judged, the fifth too
   pub fiveTargets : assessed 5 [] (10 ∷ 10 ∷ 10 ∷ 10 ∷ 10 ∷ []) ≡ 0
   pub fifthTarget : assessed 5 [] (10 ∷ 10 ∷ 10 ∷ 10 ∷ 9 ∷ []) ≡ 4
-  pub sixTargets : assessed 6 [] (10 ∷ 10 ∷ 10 ∷ 10 ∷ 10 ∷ []) ≡ 4
+  -- target count 0 to 5
+  pub sixTargets : refusalOf sixPlaces ≡ 4
   -- assessed needs a target or non-target disease
   pub withoutDisease : assessed 0 [] [] ≡ 4
   pub nontargetAlone : refusalOf (baselineDated (ymd 2020 1 1) true true 0 [] []) ≡ 0
@@ -71,14 +94,29 @@ pub record OwnRefusals : Type 0 where
   pub markBeyond : assessed 1 (false ∷ true ∷ []) (10 ∷ []) ≡ 5
   pub sizeBeyond : assessed 1 [] (10 ∷ 501 ∷ []) ≡ 5
   pub unmeasured : visited [] (501 ∷ []) ≡ 5
+  pub unmeasured1 : visited [] (1 ∷ []) ≡ 5
   pub missingAlone : missing false 0 [] [] ≡ 0
   pub missingNontarget : missing true 0 [] [] ≡ 5
-  pub missingCount : missing false 7 [] [] ≡ 5
+  pub missingCount1 : missing false 1 [] [] ≡ 5
+  pub missingCount7 : missing false 7 [] [] ≡ 5
   pub missingNode : missing false 0 (true ∷ []) [] ≡ 5
   pub missingSize : missing false 0 [] (501 ∷ []) ≡ 5
+  -- therapy, death: what would be a measured size of 501 is 5 and not 4
   pub therapyMark : refusalOf (withTargets (E.Therapy (ymd 2020 2 12)) (true ∷ []) []) ≡ 5
+  pub therapyTarget : refusalOf (withTargets (E.Therapy (ymd 2020 2 12)) (true ∷ []) (501 ∷ [])) ≡ 5
+  pub deathMark : refusalOf (withTargets (E.Death (ymd 2020 2 12)) (true ∷ []) []) ≡ 5
   pub deathSize : refusalOf (withTargets (E.Death (ymd 2020 2 12)) [] (1 ∷ [])) ≡ 5
+  pub deathTarget : refusalOf (withTargets (E.Death (ymd 2020 2 12)) (true ∷ []) (501 ∷ [])) ≡ 5
   pub spareBit : refusalOfRead (therapyDated (ymd 2020 2 12)) false true ≡ 5
   -- 3 before 4, and 4 before 5
   pub dateFirst : refusalOfRead (visitDated (ymd 2021 2 29) S.NN false (true ∷ []) (501 ∷ 1 ∷ [])) true true ≡ 3
   pub limitsNext : refusalOfRead (visitDated (ymd 2020 2 12) S.NN false (true ∷ []) (501 ∷ 1 ∷ [])) false true ≡ 4
+
+pub record NumbersOfCases : Type 0 where
+  -- 1 baseline, 2 visit, 3 therapy, 4 death
+  pub kinds : map kindNumber (eachKind (ymd 2020 1 1)) ≡ 1 ∷ 2 ∷ 3 ∷ 4 ∷ []
+  pub dates : map dateOf (eachKind (ymd 2020 1 1)) ≡ ymd 2020 1 1 ∷ ymd 2020 1 1 ∷ ymd 2020 1 1 ∷ ymd 2020 1 1 ∷ []
+  -- 0 NA, 1 CR, 2 NN, 3 PD, 4 NE
+  pub statuses : map statusNumber (S.NA ∷ S.CR ∷ S.NN ∷ S.PD ∷ S.NE ∷ []) ≡ 0 ∷ 1 ∷ 2 ∷ 3 ∷ 4 ∷ []
+  -- 3 no such date in range; 4 field outside its limits; 5 something that must be zero isn't
+  pub refusals : map checkNumber (C.Passed ∷ C.NoSuchDate ∷ C.OutsideLimits ∷ C.NotZero ∷ []) ≡ 0 ∷ 3 ∷ 4 ∷ 5 ∷ []
