@@ -1,23 +1,39 @@
 -- The lines at the edges, by computation.
 -- Assumes nothing.
 use mathlib.Core.Path.{refl}
+use Rattle.dates.specs.Calendar.{leapYear, daysInMonth, dateExists, daysOfYears, daysOfMonths, dayNumber}
+use Rattle.dates.specs.Answers.{studyDayOf}
+use Rattle.records.specs.Refusals.{wrongSize, largeMeasured, setBeyond, sizedUnmeasured, withoutDisease, outsideLimits, notZero, refusalOfRead}
+use Rattle.codec.specs.Bytes.{bytesNumber}
+use Rattle.codec.specs.Reading.{statusFrom, baselineIn, visitIn, rawIn, refusalOfNumber, refusalOfBytes, recordOfBytes}
+use Rattle.parts.specs.Parts.{badLength}
 use Rattle.criteria.specs.Sums.{measuredSum, baselineSum, allMeasured}
 use Rattle.criteria.specs.Targets.{allGone, grown, shrunk, targetAnswer}
 use Rattle.criteria.specs.Nadir.{nadirOf}
 use Rattle.criteria.specs.Overall.{overallAnswer}
 use Rattle.criteria.specs.Change.{changeBetween, changeOf}
+use Rattle.endpoints.specs.Lawful.{measuredBeyond, fitsBy, fits}
+use Rattle.endpoints.specs.Visits.{judge}
+use Rattle.endpoints.specs.Pfs.{gapLimit, pfs}
+use Rattle.endpoints.specs.Best.{best, duration}
 use Rattle.endpoints.specs.Lines.{lineOf}
+use Rattle.endpoints.specs.Settled.{pfsSettledBy, bestSettledBy, durationSettledBy, pfsSettled, bestSettled, durationSettled}
+use Rattle.endpoints.specs.Adding.{refusalBehind, refusalOfOpening, refusalOfAdding}
+use Rattle.file.specs.File.{startsLate, verdictOf}
 use Rattle.text.specs.Numerals.{decimal}
-use Rattle.text.specs.Text.{tenthsText, visitText, pfsText, bestText, durationText, settledText, outcomeText, refusalText}
+use Rattle.text.specs.Text.{tenthsText, visitText, pfsText, bestText, durationText, settledText, outcomeText, refusalText, listingOf, pageOf}
 use Rattle.text.specs.Examples.{LinesAtTheEdges}
 
 pub lines-at-the-edges : LinesAtTheEdges
-unfolding lineOf measuredSum baselineSum allMeasured allGone grown shrunk targetAnswer nadirOf overallAnswer changeBetween changeOf decimal tenthsText visitText pfsText bestText durationText settledText outcomeText refusalText
+unfolding leapYear daysInMonth dateExists daysOfYears daysOfMonths dayNumber studyDayOf wrongSize largeMeasured setBeyond sizedUnmeasured withoutDisease outsideLimits notZero refusalOfRead bytesNumber statusFrom baselineIn visitIn rawIn refusalOfNumber refusalOfBytes recordOfBytes badLength measuredSum baselineSum allMeasured allGone grown shrunk targetAnswer nadirOf overallAnswer changeBetween changeOf measuredBeyond fitsBy fits judge gapLimit pfs best duration lineOf pfsSettledBy bestSettledBy durationSettledBy pfsSettled bestSettled durationSettled refusalBehind refusalOfOpening refusalOfAdding startsLate verdictOf decimal tenthsText visitText pfsText bestText durationText settledText outcomeText refusalText listingOf pageOf
 lines-at-the-edges =
     record {
       first = refl;
       last = refl;
       outcome = refl;
+      stable = refl;
+      response = refl;
+      nothing = refl;
       words = refl;
       complete = refl;
       censored = refl;
@@ -29,5 +45,8 @@ lines-at-the-edges =
       absent = refl;
       accepted = refl;
       stopped = refl;
+      listing = refl;
       refused = refl;
+      index10 = refl;
+      page = refl;
     }

@@ -1,17 +1,20 @@
--- Document 01, "Change in size, file and listing": the lines of the printed example, and lines at the edges. Proved in proofs/Examples.antt.
+-- Document 01, "Change in size, file and listing": the lines and the listing of the printed example, and lines at the edges. Proved in
+-- proofs/Examples.antt.
 -- Assumes nothing.
 use mathlib.Core.Path.{_≡_}
 use mathlib.Core.Bool.{true, false}
-use mathlib.Core.List.{[], _∷_, _++_}
+use mathlib.Core.List.{List, [], _∷_, _++_}
+use Prim.Native.Nat.{ℕ}
+use Rattle.codec.specs.Examples.{printedBytes, printedVisitBytes, eleven}
 use Rattle.criteria.specs.Words.{CR, PR, SD, PD, NE, NA, NN}
 use Rattle.criteria.specs.Change.{none, signed}
-use Rattle.endpoints.specs.Values.{CENSORED, event, noDuration, forDays, EVENT, Outcome}
+use Rattle.endpoints.specs.Values.{CENSORED, event, censored, noDuration, forDays, EVENT, Outcome}
 use Rattle.endpoints.specs.StudyRecords.{baseline}
 use Rattle.endpoints.specs.Lines.{VisitLine}
 use Rattle.endpoints.specs.Examples.{withNode}
 use Rattle.endpoints.specs.FurtherExamples.{visit43, visit85, visit127}
 use Rattle.file.specs.File as F
-use Rattle.text.specs.Text.{changeText, visitText, bestText, durationText, settledText, outcomeText, refusalText, listingText}
+use Rattle.text.specs.Text.{changeText, visitText, bestText, durationText, settledText, outcomeText, refusalText, listingText, listingOf, pageOf}
 
 -- V 43 PR NN PR -40.0 and V 127 PD NN PD -75.0
 abbrev firstVisit : VisitLine
@@ -31,6 +34,27 @@ abbrev printedOutcome : Outcome
 printedOutcome =
     record { pfs = event 127; best = PR; duration = forDays EVENT 85; pfsSettled = true; bestSettled = true; durationSettled = true }
 
+-- SD 43, therapy 50; PR 43, PR 85, therapy 90; a baseline alone
+abbrev afterStable : Outcome
+afterStable =
+    record { pfs = censored 43; best = SD; duration = noDuration; pfsSettled = false; bestSettled = true; durationSettled = true }
+
+abbrev afterResponse : Outcome
+afterResponse =
+    record { pfs = censored 85; best = PR; duration = forDays CENSORED 43; pfsSettled = false; bestSettled = true; durationSettled = false }
+
+abbrev baselineAlone : Outcome
+baselineAlone =
+    record { pfs = censored 1; best = NE; duration = noDuration; pfsSettled = false; bestSettled = false; durationSettled = false }
+
+-- the file of the printed example: 2020-01-01, 02-12 (24, 12), 03-25 (0, 9) and 05-06 (0, 15)
+abbrev printedFile : List ℕ
+printedFile =
+    printedBytes
+    ++ (printedVisitBytes
+    ++ (eleven (0x4F ∷ 0xC8 ∷ 0x79 ∷ 0x48 ∷ 0x01 ∷ 0x02 ∷ 0x40 ∷ [])
+    ++ eleven (0x4F ∷ 0xC8 ∷ 0xA6 ∷ 0x48 ∷ 0x01 ∷ 0x03 ∷ 0xC0 ∷ [])))
+
 pub record LinesAtTheEdges : Type 0 where
   pub first : visitText firstVisit ≡ 86 ∷ 32 ∷ 52 ∷ 51 ∷ 32 ∷ 80 ∷ 82 ∷ 32 ∷ 78 ∷ 78 ∷ 32 ∷ 80 ∷ 82 ∷ 32 ∷ 45 ∷ 52 ∷ 48 ∷ 46 ∷ 48 ∷ 10 ∷ []
   pub last : visitText lastVisit
@@ -41,6 +65,24 @@ pub record LinesAtTheEdges : Type 0 where
       ∷ 66 ∷ 32 ∷ 80 ∷ 82 ∷ 10
       ∷ 68 ∷ 32 ∷ 69 ∷ 86 ∷ 69 ∷ 78 ∷ 84 ∷ 32 ∷ 56 ∷ 53 ∷ 10
       ∷ 83 ∷ 32 ∷ 49 ∷ 32 ∷ 49 ∷ 32 ∷ 49 ∷ 10 ∷ []
+  -- settled marks of PFS, best, duration, told apart: P CENSORED 43, B SD, D none, S 0 1 1
+  pub stable : outcomeText afterStable
+      ≡ 80 ∷ 32 ∷ 67 ∷ 69 ∷ 78 ∷ 83 ∷ 79 ∷ 82 ∷ 69 ∷ 68 ∷ 32 ∷ 52 ∷ 51 ∷ 10
+      ∷ 66 ∷ 32 ∷ 83 ∷ 68 ∷ 10
+      ∷ 68 ∷ 32 ∷ 110 ∷ 111 ∷ 110 ∷ 101 ∷ 10
+      ∷ 83 ∷ 32 ∷ 48 ∷ 32 ∷ 49 ∷ 32 ∷ 49 ∷ 10 ∷ []
+  -- P CENSORED 85, B PR, D CENSORED 43, S 0 1 0
+  pub response : outcomeText afterResponse
+      ≡ 80 ∷ 32 ∷ 67 ∷ 69 ∷ 78 ∷ 83 ∷ 79 ∷ 82 ∷ 69 ∷ 68 ∷ 32 ∷ 56 ∷ 53 ∷ 10
+      ∷ 66 ∷ 32 ∷ 80 ∷ 82 ∷ 10
+      ∷ 68 ∷ 32 ∷ 67 ∷ 69 ∷ 78 ∷ 83 ∷ 79 ∷ 82 ∷ 69 ∷ 68 ∷ 32 ∷ 52 ∷ 51 ∷ 10
+      ∷ 83 ∷ 32 ∷ 48 ∷ 32 ∷ 49 ∷ 32 ∷ 48 ∷ 10 ∷ []
+  -- P CENSORED 1, B NE, D none, S 0 0 0
+  pub nothing : outcomeText baselineAlone
+      ≡ 80 ∷ 32 ∷ 67 ∷ 69 ∷ 78 ∷ 83 ∷ 79 ∷ 82 ∷ 69 ∷ 68 ∷ 32 ∷ 49 ∷ 10
+      ∷ 66 ∷ 32 ∷ 78 ∷ 69 ∷ 10
+      ∷ 68 ∷ 32 ∷ 110 ∷ 111 ∷ 110 ∷ 101 ∷ 10
+      ∷ 83 ∷ 32 ∷ 48 ∷ 32 ∷ 48 ∷ 32 ∷ 48 ∷ 10 ∷ []
   -- V 7 NA NE SD - and B CR, for the other words
   pub words : visitText otherWords ≡ 86 ∷ 32 ∷ 55 ∷ 32 ∷ 78 ∷ 65 ∷ 32 ∷ 78 ∷ 69 ∷ 32 ∷ 83 ∷ 68 ∷ 32 ∷ 45 ∷ 10 ∷ []
   pub complete : bestText CR ≡ 66 ∷ 32 ∷ 67 ∷ 82 ∷ 10 ∷ []
@@ -57,5 +99,10 @@ pub record LinesAtTheEdges : Type 0 where
   pub accepted : listingText (F.accepted printedOutcome) (baseline withNode ∷ visit43 ∷ visit85 ∷ visit127 ∷ [])
       ≡ visitText firstVisit ++ (visitText secondVisit ++ (visitText lastVisit ++ outcomeText printedOutcome))
   pub stopped : listingText (F.refused 11 1) (baseline withNode ∷ visit43 ∷ []) ≡ refusalText 11 1
-  -- R 13 0
+  -- prints just
+  pub listing : listingOf printedFile ≡ visitText firstVisit ++ (visitText secondVisit ++ (visitText lastVisit ++ outcomeText printedOutcome))
+  -- R 13 0 and R 9 10: no zero in front
   pub refused : refusalText 13 0 ≡ 82 ∷ 32 ∷ 49 ∷ 51 ∷ 32 ∷ 48 ∷ 10 ∷ []
+  pub index10 : refusalText 9 10 ≡ 82 ∷ 32 ∷ 57 ∷ 32 ∷ 49 ∷ 48 ∷ 10 ∷ []
+  -- the listing of no bytes into a page of the bytes 1 to 11
+  pub page : pageOf [] (1 ∷ 2 ∷ 3 ∷ 4 ∷ 5 ∷ 6 ∷ 7 ∷ 8 ∷ 9 ∷ 10 ∷ 11 ∷ []) ≡ 82 ∷ 32 ∷ 49 ∷ 51 ∷ 32 ∷ 48 ∷ 10 ∷ 8 ∷ 9 ∷ 10 ∷ 11 ∷ []
