@@ -3,7 +3,7 @@
 use mathlib.Core.Path.{refl}
 use Rattle.criteria.specs.Sums.{measuredSum, baselineSum, allMeasured}
 use Rattle.criteria.specs.Targets.{allGone, grown, shrunk, targetAnswer}
-use Rattle.criteria.specs.Nadir.{nadirOf}
+use Rattle.criteria.specs.Nadir.{nadirOf, afterVisit}
 use Rattle.criteria.specs.Overall.{overallAnswer}
 use Rattle.criteria.specs.Change.{changeBetween, changeOf}
 use Rattle.criteria.specs.Examples.{Edges, OrdersAndPlaces, GridRows, OverallAlone, Nadirs, WrongReadings, Printed, Changes, WordsOfCases}
@@ -49,8 +49,16 @@ unfolding measuredSum baselineSum allMeasured allGone grown shrunk targetAnswer 
 overall-alone = record { newLesion = refl; nontargetPD = refl; withoutNontarget = refl; missing = refl; missingNewLesion = refl }
 
 pub nadirs : Nadirs
-unfolding measuredSum baselineSum allMeasured allGone grown shrunk targetAnswer nadirOf
-nadirs = record { leastOfAll = refl; beforeIncomplete = refl; baselineLeast = refl }
+unfolding measuredSum baselineSum allMeasured allGone grown shrunk targetAnswer nadirOf afterVisit
+nadirs =
+    record {
+      leastOfAll = refl;
+      beforeIncomplete = refl;
+      baselineLeast = refl;
+      lesser = refl;
+      larger = refl;
+      incomplete = refl;
+    }
 
 pub wrong-readings : WrongReadings
 unfolding measuredSum baselineSum allMeasured allGone grown shrunk targetAnswer nadirOf overallAnswer

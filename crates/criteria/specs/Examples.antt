@@ -12,6 +12,7 @@ use Rattle.records.specs.declared.Status.the-variants as S
 use Rattle.criteria.specs.Words.{Word, CR, PR, SD, PD, NE, NA, NN, targetWord, statusWord, overallWord}
 use Rattle.criteria.specs.Inputs.{Visit, diseaseOf}
 use Rattle.criteria.specs.Sums.{measuredSum, baselineSum}
+use Rattle.criteria.specs.Nadir.{afterVisit}
 use Rattle.criteria.specs.Overall.{isPD, overallAnswer, evaluable}
 use Rattle.criteria.specs.Change.{none, signed, changeValues, changeBetween}
 use Rattle.criteria.specs.Visits.{visitTarget, visitOverall, visitChange}
@@ -106,6 +107,10 @@ pub record Nadirs : Type 0 where
   pub beforeIncomplete : visitTarget (baselineWith [] (60 ∷ 40 ∷ [])) (measuring (30 ∷ []) ∷ measuring (30 ∷ 20 ∷ []) ∷ []) (measuring (40 ∷ 20 ∷ [])) ≡ PD
   -- the baseline sum, 50, and not 58 of the visit
   pub baselineLeast : visitTarget (baselineWith [] (50 ∷ [])) (measuring (58 ∷ []) ∷ []) (measuring (60 ∷ [])) ≡ PD
+  -- after one visit more: a lesser sum moves it; a larger one and one with a target unmeasured leave it
+  pub lesser : afterVisit 2 (record { nadir = 60 }) (true ∷ true ∷ []) (30 ∷ 20 ∷ []) ≡ record { nadir = 50 }
+  pub larger : afterVisit 2 (record { nadir = 60 }) (true ∷ true ∷ []) (40 ∷ 30 ∷ []) ≡ record { nadir = 60 }
+  pub incomplete : afterVisit 2 (record { nadir = 60 }) (true ∷ false ∷ []) (30 ∷ 0 ∷ []) ≡ record { nadir = 60 }
 
 pub record WrongReadings : Type 0 where
   -- growth against baseline alone: the sum is half the baseline's and three times the nadir
@@ -159,4 +164,8 @@ pub record WordsOfCases : Type 0 where
   pub targets : map targetWord (T.CR ∷ T.PR ∷ T.SD ∷ T.PD ∷ T.NE ∷ T.NA ∷ []) ≡ CR ∷ PR ∷ SD ∷ PD ∷ NE ∷ NA ∷ []
   pub nontargets : map statusWord (S.NA ∷ S.CR ∷ S.NN ∷ S.PD ∷ S.NE ∷ []) ≡ NA ∷ CR ∷ NN ∷ PD ∷ NE ∷ []
   pub overalls : map overallWord (O.CR ∷ O.PR ∷ O.SD ∷ O.PD ∷ O.NE ∷ []) ≡ CR ∷ PR ∷ SD ∷ PD ∷ NE ∷ []
-  pub changes : map changeValues (C.Absent ∷ C.Increase 5 ∷ C.Decrease 5 ∷ []) ≡ none ∷ signed false 5 ∷ signed true 5 ∷ []
+  pub changes : map changeValues (C.Absent ∷ C.Increase 5 ∷ C.Decrease 5 ∷ [])
+      ≡ record { known = false; negative = false; tenths = 0 }
+      ∷ record { known = true; negative = false; tenths = 5 }
+      ∷ record { known = true; negative = true; tenths = 5 }
+      ∷ []

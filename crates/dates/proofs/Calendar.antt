@@ -1,4 +1,4 @@
--- The laws of the calendar: existing dates have numbers from 1 to 40177, in the order of the dates, each its own; and the edges.
+-- The laws of the calendar: existing dates have numbers from 1 to 40177, in the order of the dates, each its own.
 -- Assumes nothing.
 use mathlib.Core.Path.{_≡_, refl, sym}
 use mathlib.Core.Bool.{Bool, true, false}
@@ -12,8 +12,7 @@ use borrow.Author.Tests.{ltb-true, eqb-true, eqb-false}
 use Rattle.laws.specs.Choice.{both, either, pick}
 use Rattle.laws.proofs.Tests.{both-true}
 use Rattle.dates.specs.Calendar.{leapYear, daysInMonth, dateExists, daysOfYears, daysOfMonths, dayNumber}
-use Rattle.dates.specs.Answers.{dayNumberOf}
-use Rattle.dates.specs.Laws.{earlier, ymd, CalendarLaws, CalendarEdges}
+use Rattle.dates.specs.Laws.{earlier, ymd, CalendarLaws}
 use Rattle.dates.specs.declared.Date.{Date}
 use Rattle.dates.proofs.Days.{Exists, exists}
 
@@ -135,19 +134,4 @@ calendar-laws =
       inRange = λ d h. in-range d (exists d h);
       rising = λ d e h g. later d e (exists d h) (exists e g);
       onlyEqual = λ d e h g. same-date d e (exists d h) (exists e g);
-    }
-
-pub calendar-edges : CalendarEdges
-unfolding dayNumberOf dateExists dayNumber daysOfYears daysOfMonths daysInMonth leapYear
-calendar-edges =
-    record {
-      first = refl;
-      last = refl;
-      tooEarly = refl;
-      tooLate = refl;
-      leapDay2000 = refl;
-      dayAfter = refl;
-      firstDays = refl;
-      last31 = refl;
-      noLeapDay = refl;
     }

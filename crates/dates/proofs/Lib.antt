@@ -1,2 +1,3 @@
+pub mod AtTheEdges
 pub mod Days
 pub mod Calendar

@@ -1,13 +1,11 @@
 -- Document 01, "Dates and records": what a reader can expect of the calendar; proved in proofs/Calendar.antt.
 -- Assumes nothing.
 use mathlib.Core.Path.{_≡_}
-use mathlib.Core.Bool.{Bool, true, false}
-use mathlib.Core.List.{List, [], _∷_, map}
+use mathlib.Core.Bool.{Bool, true}
 use Prim.Native.Nat.{ℕ, _≤_, _<_}
 use lib.Dec.{ltb, eqb}
 use Rattle.laws.specs.Choice.{both, either}
 use Rattle.dates.specs.Calendar.{lastDayNumber, dateExists, dayNumber}
-use Rattle.dates.specs.Answers.{counted, refused, dayNumberOf}
 use Rattle.dates.specs.declared.Date.{Date}
 
 -- by year, then month, then day
@@ -23,20 +21,3 @@ pub record CalendarLaws : Type 0 where
 
 abbrev pub ymd : ℕ → ℕ → ℕ → Date
 ymd y m d = record { year = y; month = m; day = d }
-
-abbrev pub months : List ℕ
-months = 1 ∷ 2 ∷ 3 ∷ 4 ∷ 5 ∷ 6 ∷ 7 ∷ 8 ∷ 9 ∷ 10 ∷ 11 ∷ 12 ∷ []
-
--- the edges of the range, leap days, and each month of a common year: its first day, and whether it has a 31st
-pub record CalendarEdges : Type 0 where
-  pub first : dayNumberOf (ymd 1990 1 1) ≡ counted 1
-  pub last : dayNumberOf (ymd 2099 12 31) ≡ counted 40177
-  pub tooEarly : dayNumberOf (ymd 1989 12 31) ≡ refused 3
-  pub tooLate : dayNumberOf (ymd 2100 1 1) ≡ refused 3
-  pub leapDay2000 : dayNumberOf (ymd 2000 2 29) ≡ counted 3712
-  pub dayAfter : dayNumberOf (ymd 2000 3 1) ≡ counted 3713
-  pub firstDays : map (λ (m : ℕ). dayNumber (ymd 1990 m 1)) months
-      ≡ 1 ∷ 32 ∷ 60 ∷ 91 ∷ 121 ∷ 152 ∷ 182 ∷ 213 ∷ 244 ∷ 274 ∷ 305 ∷ 335 ∷ []
-  pub last31 : map (λ (m : ℕ). dateExists (ymd 1990 m 31)) months
-      ≡ true ∷ false ∷ true ∷ false ∷ true ∷ false ∷ true ∷ true ∷ false ∷ true ∷ false ∷ true ∷ []
-  pub noLeapDay : dayNumberOf (ymd 2023 2 29) ≡ refused 3

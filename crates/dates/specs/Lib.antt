@@ -1,3 +1,4 @@
 pub mod Calendar
 pub mod Answers
 pub mod Laws
+pub mod Examples

@@ -7,3 +7,4 @@ pub mod Follows
 pub mod Loop
 pub mod Called
 pub mod Singly
+pub mod WholeFiles

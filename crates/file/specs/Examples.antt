@@ -1,11 +1,21 @@
--- Document 01, "Where a call stops", 13 of an empty file, and 14: a response that starts before the day on which PFS ends, on it, and after it. Proved in
--- proofs/AtTheEdges.antt.
+-- Document 01, "Where a call stops": 13 of an empty file, 14 of a response that starts before the day on which PFS ends, on it, and after it, proved in
+-- proofs/AtTheEdges.antt; and whole files, the printed example among them, proved in proofs/WholeFiles.antt.
 -- Assumes nothing.
 use mathlib.Core.Path.{_≡_}
 use mathlib.Core.Bool.{true, false}
-use mathlib.Core.List.{[]}
-use Rattle.endpoints.specs.Values.{on, CENSORED, censored, noDuration, forDays}
-use Rattle.file.specs.File.{refused, startsLate, verdictOf}
+use mathlib.Core.List.{List, [], _∷_, _++_}
+use Prim.Native.Nat.{ℕ}
+use Rattle.codec.specs.Examples.{eleven, printedBytes, printedVisitBytes, oneTargetBytes, missingBytes, therapyBytes, deathBytes}
+use Rattle.codec.specs.declared.ReadAnswer.{ReadAnswer}
+use Rattle.codec.specs.declared.ReadAnswer.the-variants as R
+use Rattle.codec.specs.declared.ReadResult.{ReadResult}
+use Rattle.codec.specs.Reading.{blank}
+use Rattle.criteria.specs.Words.{PR, NE}
+use Rattle.endpoints.specs.Values.{on, EVENT, CENSORED, event, censored, noDuration, forDays, Outcome}
+use Rattle.outcome.specs.Examples.{result, told}
+use Rattle.file.specs.File.{refused, accepted, startsLate, verdictOf, fileValues}
+use Rattle.file.specs.Singly.{never, at, numberOf, firstRefusal}
+use Rattle.file.specs.declared.FileAnswer.the-variants as F
 
 pub record EmptyFile : Type 0 where
   pub nothing : verdictOf [] ≡ refused 13 0
@@ -15,3 +25,54 @@ pub record LateAtTheEdges : Type 0 where
   pub sameDay : startsLate (forDays CENSORED 1) (on 43) (censored 43) ≡ false
   pub after : startsLate (forDays CENSORED 1) (on 44) (censored 43) ≡ true
   pub withoutDuration : startsLate noDuration (on 44) (censored 43) ≡ false
+
+-- the file of the printed example: 2020-01-01, 02-12 (24, 12), 03-25 (0, 9) and 05-06 (0, 15)
+abbrev pub printedFile : List ℕ
+printedFile =
+    printedBytes
+    ++ (printedVisitBytes
+    ++ (eleven (0x4F ∷ 0xC8 ∷ 0x79 ∷ 0x48 ∷ 0x01 ∷ 0x02 ∷ 0x40 ∷ [])
+    ++ eleven (0x4F ∷ 0xC8 ∷ 0xA6 ∷ 0x48 ∷ 0x01 ∷ 0x03 ∷ 0xC0 ∷ [])))
+
+-- P EVENT 127, B PR, D EVENT 85, S 1 1 1
+abbrev pub printedOutcome : Outcome
+printedOutcome =
+    record { pfs = event 127; best = PR; duration = forDays EVENT 85; pfsSettled = true; bestSettled = true; durationSettled = true }
+
+-- a missing baseline alone: P CENSORED 1, B NE, D none, S 0 1 1
+abbrev pub missingOutcome : Outcome
+missingOutcome =
+    record { pfs = censored 1; best = NE; duration = noDuration; pfsSettled = false; bestSettled = true; durationSettled = true }
+
+pub record WholeFiles : Type 0 where
+  pub printed : verdictOf printedFile ≡ accepted printedOutcome
+  pub missing : verdictOf missingBytes ≡ accepted missingOutcome
+  -- 13 before its records, with index 0
+  pub twelveBytes : verdictOf (printedBytes ++ (0 ∷ [])) ≡ refused 13 0
+  -- the first record: 2 to 5, then 7
+  pub kind0 : verdictOf (eleven []) ≡ refused 2 0
+  pub visitFirst : verdictOf printedVisitBytes ≡ refused 7 0
+  -- later ones: 2 to 5, then 8 to 11, with the record's index
+  pub laterKind0 : verdictOf (printedBytes ++ eleven []) ≡ refused 2 1
+  pub secondBaseline : verdictOf (printedBytes ++ printedBytes) ≡ refused 8 1
+  pub afterDeath : verdictOf (printedBytes ++ (deathBytes ++ therapyBytes)) ≡ refused 9 2
+  pub sameDay : verdictOf (printedBytes ++ (printedVisitBytes ++ printedVisitBytes)) ≡ refused 10 2
+  pub misfit : verdictOf (oneTargetBytes ++ printedVisitBytes) ≡ refused 11 1
+  -- the first bad one stops it
+  pub firstBad : verdictOf (printedBytes ++ (printedBytes ++ eleven [])) ≡ refused 8 1
+
+-- the number that reading gives, beside the blank record
+abbrev pub reading : ReadAnswer → ReadResult
+reading a = record { answer = a; found = blank }
+
+-- the first refusal of calls one by one
+pub record FirstOfCalls : Type 0 where
+  pub readFirst : numberOf (reading R.NoSuchDate) 10 ≡ 3
+  pub thenAdded : numberOf (reading R.Done) 10 ≡ 10
+  pub atSecond : firstRefusal 0 (0 ∷ 0 ∷ 10 ∷ 9 ∷ []) ≡ at 10 2
+  pub none : firstRefusal 0 (0 ∷ 0 ∷ []) ≡ never
+
+-- the values of the declared cases
+pub record ValuesOfCases : Type 0 where
+  pub refusal : fileValues (F.Refused (record { number = 9; index = 10 })) ≡ refused 9 10
+  pub outcome : fileValues (F.Accepted (result false true false)) ≡ accepted (told false true false)

@@ -1,3 +1,4 @@
 pub mod Range
 pub mod Visits
 pub mod Laws
+pub mod Examples

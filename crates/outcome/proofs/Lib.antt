@@ -1,3 +1,4 @@
+pub mod AtTheEdges
 pub mod Follows
 pub mod Within
 pub mod Runs

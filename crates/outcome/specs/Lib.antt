@@ -1,3 +1,4 @@
 pub mod Promises
 pub mod Demand3
 pub mod Laws
+pub mod Examples

@@ -1,4 +1,4 @@
--- Lengths at the edges of 13; and where it does not meet a file, its parts have 11 bytes each and joined are the file.
+-- Where 13 does not meet a file, its parts have 11 bytes each and joined are the file.
 -- Assumes nothing.
 use mathlib.Core.Path.{_≡_, refl, _∙_, ap}
 use mathlib.Core.Bool.{false, not}
@@ -11,7 +11,7 @@ use lib.ListN.{length, take, drop, take-append-drop, length-drop}
 use lib.Seq.{length-take-le, drop-drop}
 use Rattle.laws.proofs.Tests.{either-false}
 use Rattle.codec.specs.Bytes.{recordLength}
-use Rattle.parts.specs.Parts.{mostBytes, badLength, parts, joined, AllEleven, LengthsAtTheEdges, Cuts}
+use Rattle.parts.specs.Parts.{mostBytes, badLength, parts, joined, AllEleven, Cuts}
 
 -- the bytes of part k, as a part of a slice has them, and the parts from k on, of count in all
 abbrev pub partAt : List ℕ → ℕ → List ℕ
@@ -27,11 +27,6 @@ one-more l count k h =
     let g : k * 11 + 11 - k * 11 ≡ 11 = omega arith in
     rw (e, g)
     (ap (λ (m : List ℕ). take 11 (drop (k * 11) l) ∷ parts (count - (k + 1)) m) (drop-drop 11 (k * 11) l ∙ ap (λ (j : ℕ). drop j l) f))
-
-pub lengths-at-the-edges : LengthsAtTheEdges
-unfolding badLength
-lengths-at-the-edges =
-    record { nothing = refl; oneRecord = refl; oneByteMore = refl; mostRecords = refl; mostAndAByte = refl; mostAndARecord = refl }
 
 -- what 13 leaves
 pub fair-length : (n : ℕ) → badLength n ≡ false → (1 ≤ n) × (n % 11 ≡ 0) × (n ≤ mostBytes)

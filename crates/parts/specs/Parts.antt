@@ -1,7 +1,7 @@
 -- Document 01, "Change in size, file and listing" and "Where a call stops", 13: a file of 1 to 4,000 records of 11 bytes.
 -- Assumes nothing.
 use mathlib.Core.Path.{_≡_}
-use mathlib.Core.Bool.{Bool, true, false, not}
+use mathlib.Core.Bool.{Bool, false, not}
 use mathlib.Core.List.{List, [], _∷_, _++_}
 use Prim.Native.Nat.{ℕ, zero, suc, _/_, _%_}
 use lib.Dec.{ltb, eqb}
@@ -34,15 +34,6 @@ joined (part ∷ ps) = part ++ joined ps
 abbrev pub AllEleven : List (List ℕ) → Type 0
 AllEleven [] = Unit {0}
 AllEleven (part ∷ ps) = (length part ≡ recordLength) × AllEleven ps
-
--- no bytes, one record and a byte more, 4,000 records, a byte and a record more; proved in proofs/Cut.antt
-pub record LengthsAtTheEdges : Type 0 where
-  pub nothing : badLength 0 ≡ true
-  pub oneRecord : badLength 11 ≡ false
-  pub oneByteMore : badLength 12 ≡ true
-  pub mostRecords : badLength 44000 ≡ false
-  pub mostAndAByte : badLength 44001 ≡ true
-  pub mostAndARecord : badLength 44011 ≡ true
 
 -- where 13 does not meet a file, its parts have 11 bytes each and joined are the file; proved in proofs/Cut.antt
 abbrev pub Cuts : Type 0

@@ -1,3 +1,4 @@
 pub mod Added
 pub mod Lines
 pub mod Refusals
+pub mod Examples

@@ -1,3 +1,4 @@
+pub mod AtTheEdges
 pub mod TargetRules
 pub mod Least
 pub mod Rounding

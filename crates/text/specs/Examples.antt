@@ -3,17 +3,16 @@
 -- Assumes nothing.
 use mathlib.Core.Path.{_≡_}
 use mathlib.Core.Bool.{true, false}
-use mathlib.Core.List.{List, [], _∷_, _++_}
-use Prim.Native.Nat.{ℕ}
-use Rattle.codec.specs.Examples.{printedBytes, printedVisitBytes, eleven}
+use mathlib.Core.List.{[], _∷_, _++_}
 use Rattle.criteria.specs.Words.{CR, PR, SD, PD, NE, NA, NN}
 use Rattle.criteria.specs.Change.{none, signed}
-use Rattle.endpoints.specs.Values.{CENSORED, event, censored, noDuration, forDays, EVENT, Outcome}
+use Rattle.endpoints.specs.Values.{CENSORED, censored, noDuration, forDays, Outcome}
 use Rattle.endpoints.specs.StudyRecords.{baseline}
 use Rattle.endpoints.specs.Lines.{VisitLine}
 use Rattle.endpoints.specs.Examples.{withNode}
 use Rattle.endpoints.specs.FurtherExamples.{visit43, visit85, visit127}
 use Rattle.file.specs.File as F
+use Rattle.file.specs.Examples.{printedFile, printedOutcome}
 use Rattle.text.specs.Text.{changeText, visitText, bestText, durationText, settledText, outcomeText, refusalText, listingText, listingOf, pageOf}
 
 -- V 43 PR NN PR -40.0 and V 127 PD NN PD -75.0
@@ -30,10 +29,6 @@ secondVisit = record { day = 85; target = CR; nontarget = NN; overall = PR; chan
 abbrev otherWords : VisitLine
 otherWords = record { day = 7; target = NA; nontarget = NE; overall = SD; change = none }
 
-abbrev printedOutcome : Outcome
-printedOutcome =
-    record { pfs = event 127; best = PR; duration = forDays EVENT 85; pfsSettled = true; bestSettled = true; durationSettled = true }
-
 -- SD 43, therapy 50; PR 43, PR 85, therapy 90; a baseline alone
 abbrev afterStable : Outcome
 afterStable =
@@ -46,14 +41,6 @@ afterResponse =
 abbrev baselineAlone : Outcome
 baselineAlone =
     record { pfs = censored 1; best = NE; duration = noDuration; pfsSettled = false; bestSettled = false; durationSettled = false }
-
--- the file of the printed example: 2020-01-01, 02-12 (24, 12), 03-25 (0, 9) and 05-06 (0, 15)
-abbrev printedFile : List ℕ
-printedFile =
-    printedBytes
-    ++ (printedVisitBytes
-    ++ (eleven (0x4F ∷ 0xC8 ∷ 0x79 ∷ 0x48 ∷ 0x01 ∷ 0x02 ∷ 0x40 ∷ [])
-    ++ eleven (0x4F ∷ 0xC8 ∷ 0xA6 ∷ 0x48 ∷ 0x01 ∷ 0x03 ∷ 0xC0 ∷ [])))
 
 pub record LinesAtTheEdges : Type 0 where
   pub first : visitText firstVisit ≡ 86 ∷ 32 ∷ 52 ∷ 51 ∷ 32 ∷ 80 ∷ 82 ∷ 32 ∷ 78 ∷ 78 ∷ 32 ∷ 80 ∷ 82 ∷ 32 ∷ 45 ∷ 52 ∷ 48 ∷ 46 ∷ 48 ∷ 10 ∷ []

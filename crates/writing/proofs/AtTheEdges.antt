@@ -8,4 +8,4 @@ use Rattle.writing.specs.Examples.{FirstRefusals}
 
 pub first-refusals : FirstRefusals
 unfolding leapYear daysInMonth dateExists setBeyond outsideLimits notZero refusalOfRead refusalOfWrite
-first-refusals = record { badIntoShort = refl; intoTen = refl; intoEleven = refl }
+first-refusals = record { badIntoShort = refl; intoTen = refl; intoEleven = refl; numbers = refl }

@@ -4,3 +4,4 @@ pub mod Parts
 pub mod ReadBack
 pub mod WrittenBack
 pub mod RoundTrip
+pub mod Written

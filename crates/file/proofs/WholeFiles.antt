@@ -1,0 +1,39 @@
+-- Whole files, by computation. By its name this file is checked behind the theorem that ties a file to the additions, so that a file judged otherwise is
+-- refused there.
+-- Assumes nothing.
+use mathlib.Core.Path.{refl}
+use Rattle.dates.specs.Calendar.{leapYear, daysInMonth, dateExists, daysOfYears, daysOfMonths, dayNumber}
+use Rattle.dates.specs.Answers.{studyDayOf}
+use Rattle.records.specs.Refusals.{wrongSize, largeMeasured, setBeyond, sizedUnmeasured, withoutDisease, outsideLimits, notZero, refusalOfRead}
+use Rattle.codec.specs.Bytes.{bytesNumber}
+use Rattle.codec.specs.Reading.{statusFrom, baselineIn, visitIn, spareIn, rawIn, refusalOfNumber, refusalOfBytes, recordOfBytes}
+use Rattle.parts.specs.Parts.{badLength}
+use Rattle.criteria.specs.Sums.{measuredSum, baselineSum, allMeasured}
+use Rattle.criteria.specs.Targets.{allGone, grown, shrunk, targetAnswer}
+use Rattle.criteria.specs.Nadir.{nadirOf}
+use Rattle.criteria.specs.Overall.{overallAnswer}
+use Rattle.endpoints.specs.Lawful.{measuredBeyond, fitsBy, fits}
+use Rattle.endpoints.specs.Visits.{judge}
+use Rattle.endpoints.specs.Pfs.{gapLimit, earlyDeath, pfs}
+use Rattle.endpoints.specs.Best.{best, duration}
+use Rattle.endpoints.specs.Settled.{settledFrom, pfsSettledBy, bestSettledBy, durationSettledBy, pfsSettled, bestSettled, durationSettled}
+use Rattle.endpoints.specs.Adding.{refusalBehind, refusalOfOpening, refusalOfAdding}
+use Rattle.file.specs.File.{startsLate, verdictOf}
+use Rattle.file.specs.Examples.{WholeFiles}
+
+pub whole-files : WholeFiles
+unfolding leapYear daysInMonth dateExists daysOfYears daysOfMonths dayNumber studyDayOf wrongSize largeMeasured setBeyond sizedUnmeasured withoutDisease outsideLimits notZero refusalOfRead bytesNumber statusFrom baselineIn visitIn spareIn rawIn refusalOfNumber refusalOfBytes recordOfBytes badLength measuredSum baselineSum allMeasured allGone grown shrunk targetAnswer nadirOf overallAnswer measuredBeyond fitsBy fits judge gapLimit earlyDeath pfs best duration settledFrom pfsSettledBy bestSettledBy durationSettledBy pfsSettled bestSettled durationSettled refusalBehind refusalOfOpening refusalOfAdding startsLate verdictOf
+whole-files =
+    record {
+      printed = refl;
+      missing = refl;
+      twelveBytes = refl;
+      kind0 = refl;
+      visitFirst = refl;
+      laterKind0 = refl;
+      secondBaseline = refl;
+      afterDeath = refl;
+      sameDay = refl;
+      misfit = refl;
+      firstBad = refl;
+    }

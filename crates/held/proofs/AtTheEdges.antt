@@ -1,0 +1,50 @@
+-- The examples are computed by the definitions. By its name this file is checked first, so that a wrong definition is refused at an example.
+-- Assumes nothing.
+use mathlib.Core.Path.{refl}
+use Rattle.dates.specs.Calendar.{leapYear, daysInMonth, dateExists}
+use Rattle.held.specs.Range.{inRange}
+use Rattle.held.specs.Visits.{eventAfter, countedAfter}
+use Rattle.held.specs.Examples.{RangeAtTheEdges, EventsAfter, CountsAfter}
+
+pub range-at-the-edges : RangeAtTheEdges
+unfolding leapYear daysInMonth dateExists inRange
+range-at-the-edges =
+    record {
+      opened = refl;
+      most = refl;
+      least = refl;
+      noDate = refl;
+      count6 = refl;
+      sum2501 = refl;
+      nadir2501 = refl;
+      latest = refl;
+      death = refl;
+      progression = refl;
+      previous = refl;
+      evaluable = refl;
+      first = refl;
+      start = refl;
+    }
+
+pub events-after : EventsAfter
+unfolding eventAfter
+events-after = record { sd43 = refl; ne85 = refl; pd127 = refl; sd169 = refl }
+
+pub counts-after : CountsAfter
+unfolding countedAfter
+counts-after =
+    record {
+      cr43 = refl;
+      pr35 = refl;
+      sd35 = refl;
+      sd36 = refl;
+      pd43 = refl;
+      cr70 = refl;
+      cr71 = refl;
+      pr71 = refl;
+      ne71 = refl;
+      sd71 = refl;
+      pd71 = refl;
+      crAfterPR = refl;
+      shown = refl;
+    }

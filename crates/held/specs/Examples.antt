@@ -1,0 +1,122 @@
+-- Document 01, "Where a call stops", 12: subjects on either side of each limit; "Outcome": what one visit more makes of what is held; and the subject of
+-- the printed example. Proved in proofs/AtTheEdges.antt.
+-- Assumes nothing.
+use mathlib.Core.Path.{_≡_}
+use mathlib.Core.Bool.{Bool, true, false}
+use mathlib.Core.List.{List, [], _∷_, map}
+use Prim.Native.Nat.{ℕ}
+use Rattle.dates.specs.declared.Date.{Date}
+use Rattle.dates.specs.declared.StudyDay.{StudyDay}
+use Rattle.dates.specs.Laws.{ymd}
+use Rattle.records.specs.Examples.{fivePlaces}
+use Rattle.criteria.specs.Words.{CR, PR, SD, PD, NE}
+use Rattle.endpoints.specs.declared.MaybeDay.{MaybeDay}
+use Rattle.endpoints.specs.declared.MaybeDay.the-variants as M
+use Rattle.held.specs.Range.{inRange}
+use Rattle.held.specs.Visits.{eventAfter, countedAfter}
+use Rattle.held.specs.declared.EventDays.{EventDays}
+use Rattle.held.specs.declared.CountingVisits.{CountingVisits}
+use Rattle.held.specs.declared.Subject.{Subject}
+
+abbrev pub day : ℕ → StudyDay
+day n = record { 0 = n }
+
+abbrev pub onDay : ℕ → MaybeDay
+onDay n = M.On (day n)
+
+-- progression, v and the last evaluable visit
+abbrev pub events : MaybeDay → ℕ → MaybeDay → EventDays
+events progression previous evaluable = record { progression = progression; previous = day previous; evaluable = evaluable }
+
+-- the first CR or PR, the start of the last run of CR, and which of CR, PR, SD and PD the counting visits show
+abbrev pub counts : MaybeDay → MaybeDay → Bool → Bool → Bool → Bool → CountingVisits
+counts first start cr pr sd pd = record { first = first; start = start; cr = cr; pr = pr; sd = sd; pd = pd }
+
+-- by randomisation date, target count, baseline sum, nadir, latest day, death, and what visits left
+abbrev pub subjectWith : Date → ℕ → ℕ → ℕ → ℕ → MaybeDay → EventDays → CountingVisits → Subject
+subjectWith randomisation count sum nadir latest death event counted =
+    record {
+      randomisation = randomisation;
+      nontarget = true;
+      baseline = record { assessed = true; count = count; nodes = fivePlaces false (false ∷ true ∷ []); sum = sum };
+      earlier = record { nadir = nadir };
+      latest = day latest;
+      therapy = false;
+      death = death;
+      event = event;
+      counted = counted;
+    }
+
+-- after the baseline of the printed example, and after its visit of day 43 with a sum of 36
+abbrev pub printedOpened : Subject
+printedOpened =
+    subjectWith (ymd 2020 1 1) 2 60 60 1 M.Absent (events M.Absent 1 M.Absent) (counts M.Absent M.Absent false false false false)
+
+abbrev pub printedVisited : Subject
+printedVisited =
+    subjectWith (ymd 2020 1 1) 2 60 36 43 M.Absent (events M.Absent 43 (onDay 43)) (counts (onDay 43) M.Absent false false true false)
+
+-- the baseline of the printed example with other days
+abbrev pub onDays : ℕ → MaybeDay → EventDays → CountingVisits → Subject
+onDays = subjectWith (ymd 2020 1 1) 2 60 60
+
+abbrev pub noEvents : EventDays
+noEvents = events M.Absent 1 M.Absent
+
+abbrev pub noCounts : CountingVisits
+noCounts = counts M.Absent M.Absent false false false false
+
+-- a day 0 or over 40,177, a sum over 2,500, a target count over 5 or a randomisation date that 3 would meet; an absent day has its own mark
+pub record RangeAtTheEdges : Type 0 where
+  pub opened : inRange printedOpened ≡ true
+  pub most : inRange
+      (subjectWith (ymd 2020 1 1) 5 2500 2500 40177 (onDay 40177) (events (onDay 40177) 40177 (onDay 40177))
+      (counts (onDay 40177) (onDay 40177) true true true true))
+      ≡ true
+  pub least : inRange
+      (subjectWith (ymd 2020 1 1) 0 0 0 1 (onDay 1) (events (onDay 1) 1 (onDay 1)) (counts (onDay 1) (onDay 1) false false false false))
+      ≡ true
+  pub noDate : inRange (subjectWith (ymd 2021 2 29) 2 60 60 1 M.Absent noEvents noCounts) ≡ false
+  pub count6 : inRange (subjectWith (ymd 2020 1 1) 6 60 60 1 M.Absent noEvents noCounts) ≡ false
+  pub sum2501 : inRange (subjectWith (ymd 2020 1 1) 2 2501 60 1 M.Absent noEvents noCounts) ≡ false
+  pub nadir2501 : inRange (subjectWith (ymd 2020 1 1) 2 60 2501 1 M.Absent noEvents noCounts) ≡ false
+  -- the latest day, death, progression, v, the last evaluable visit, the first response and the start of the last run of CR: 0 and 40,178
+  pub latest : map (λ (d : ℕ). inRange (onDays d M.Absent noEvents noCounts)) (0 ∷ 40178 ∷ []) ≡ false ∷ false ∷ []
+  pub death : map (λ (d : ℕ). inRange (onDays 1 (onDay d) noEvents noCounts)) (0 ∷ 40178 ∷ []) ≡ false ∷ false ∷ []
+  pub progression : map (λ (d : ℕ). inRange (onDays 1 M.Absent (events (onDay d) 1 M.Absent) noCounts)) (0 ∷ 40178 ∷ []) ≡ false ∷ false ∷ []
+  pub previous : map (λ (d : ℕ). inRange (onDays 1 M.Absent (events M.Absent d M.Absent) noCounts)) (0 ∷ 40178 ∷ []) ≡ false ∷ false ∷ []
+  pub evaluable : map (λ (d : ℕ). inRange (onDays 1 M.Absent (events M.Absent 1 (onDay d)) noCounts)) (0 ∷ 40178 ∷ []) ≡ false ∷ false ∷ []
+  pub first : map (λ (d : ℕ). inRange (onDays 1 M.Absent noEvents (counts (onDay d) M.Absent false false false false))) (0 ∷ 40178 ∷ [])
+      ≡ false ∷ false ∷ []
+  pub start : map (λ (d : ℕ). inRange (onDays 1 M.Absent noEvents (counts M.Absent (onDay d) false false false false))) (0 ∷ 40178 ∷ [])
+      ≡ false ∷ false ∷ []
+
+-- SD 43, NE 85, PD 127, SD 169: v moves with each visit before the progression, the last evaluable visit with the first
+pub record EventsAfter : Type 0 where
+  pub sd43 : eventAfter noEvents (day 43) SD ≡ events M.Absent 43 (onDay 43)
+  pub ne85 : eventAfter (events M.Absent 43 (onDay 43)) (day 85) NE ≡ events M.Absent 85 (onDay 43)
+  pub pd127 : eventAfter (events M.Absent 85 (onDay 43)) (day 127) PD ≡ events (onDay 127) 85 (onDay 43)
+  pub sd169 : eventAfter (events (onDay 127) 85 (onDay 43)) (day 169) SD ≡ events (onDay 127) 85 (onDay 43)
+
+-- behind a first CR on day 43
+abbrev pub afterCR : CountingVisits
+afterCR = counts (onDay 43) (onDay 43) false false true false
+
+-- one counting visit more: 28 days or more apart, with only CR or NE between two CR visits; SD from day 36 on
+pub record CountsAfter : Type 0 where
+  pub cr43 : countedAfter noCounts (day 43) CR ≡ afterCR
+  pub pr35 : countedAfter noCounts (day 35) PR ≡ counts (onDay 35) M.Absent false false false false
+  pub sd35 : countedAfter noCounts (day 35) SD ≡ noCounts
+  pub sd36 : countedAfter noCounts (day 36) SD ≡ counts M.Absent M.Absent false false true false
+  pub pd43 : countedAfter noCounts (day 43) PD ≡ counts M.Absent M.Absent false false false true
+  pub cr70 : countedAfter afterCR (day 70) CR ≡ afterCR
+  pub cr71 : countedAfter afterCR (day 71) CR ≡ counts (onDay 43) (onDay 43) true true true false
+  pub pr71 : countedAfter afterCR (day 71) PR ≡ counts (onDay 43) M.Absent false true true false
+  pub ne71 : countedAfter afterCR (day 71) NE ≡ afterCR
+  pub sd71 : countedAfter afterCR (day 71) SD ≡ counts (onDay 43) M.Absent false false true false
+  pub pd71 : countedAfter afterCR (day 71) PD ≡ counts (onDay 43) M.Absent false false true true
+  -- behind a PR of day 43, a CR of day 71 starts a run of its own
+  pub crAfterPR : countedAfter (counts (onDay 43) M.Absent false false true false) (day 71) CR
+      ≡ counts (onDay 43) (onDay 71) false true true false
+  -- what was shown stays
+  pub shown : countedAfter (counts (onDay 43) (onDay 43) true true true true) (day 99) NE ≡ counts (onDay 43) (onDay 43) true true true true

@@ -1,0 +1,38 @@
+-- Document 01, "Where a call stops", 3 to 5 and 7: the numbers of the cases, the subject that the printed baseline opens, and the blank beside a refusal.
+-- Proved in proofs/AtTheEdges.antt.
+-- Assumes nothing.
+use mathlib.Core.Path.{_≡_}
+use mathlib.Core.Bool.{false}
+use mathlib.Core.List.{[], _∷_, map}
+use Rattle.dates.specs.Laws.{ymd}
+use Rattle.records.specs.Examples.{therapyDated, deathDated}
+use Rattle.endpoints.specs.declared.MaybeDay.the-variants as M
+use Rattle.endpoints.specs.AddingExamples.{printedBaseline, visited}
+use Rattle.held.specs.declared.Subject.{Subject}
+use Rattle.held.specs.Examples.{printedOpened}
+use Rattle.opening.specs.Opening.{openNumber, openedSubject}
+use Rattle.opening.specs.declared.OpenAnswer.the-variants as O
+
+-- everything zero, every day absent
+abbrev pub zeros : Subject
+zeros =
+    record {
+      randomisation = ymd 0 0 0;
+      nontarget = false;
+      baseline = record { assessed = false; count = 0; nodes = false ∷ false ∷ false ∷ false ∷ false ∷ []; sum = 0 };
+      earlier = record { nadir = 0 };
+      latest = record { 0 = 0 };
+      therapy = false;
+      death = M.Absent;
+      event = record { progression = M.Absent; previous = record { 0 = 0 }; evaluable = M.Absent };
+      counted = record { first = M.Absent; start = M.Absent; cr = false; pr = false; sd = false; pd = false };
+    }
+
+pub record OpenedAtTheEdges : Type 0 where
+  pub numbers : map openNumber (O.Done ∷ O.NoSuchDate ∷ O.OutsideLimits ∷ O.NotZero ∷ O.NotBaseline ∷ []) ≡ 0 ∷ 3 ∷ 4 ∷ 5 ∷ 7 ∷ []
+  pub printed : openedSubject (printedBaseline (ymd 2020 1 1)) ≡ printedOpened
+  -- a refusal carries its number and nothing else: beside a baseline without a date (3), a visit, a therapy and a death (7) stands the blank
+  pub noDate : openedSubject (printedBaseline (ymd 2021 2 29)) ≡ zeros
+  pub visit : openedSubject visited ≡ zeros
+  pub therapy : openedSubject (therapyDated (ymd 2020 2 20)) ≡ zeros
+  pub death : openedSubject (deathDated (ymd 2020 2 20)) ≡ zeros

@@ -1,0 +1,41 @@
+-- The examples are computed by the definitions. By its name this file is checked first, so that a wrong definition is refused at an example.
+-- Assumes nothing.
+use mathlib.Core.Path.{refl}
+use Rattle.dates.specs.Calendar.{leapYear, daysInMonth, dateExists, daysOfYears, daysOfMonths, dayNumber}
+use Rattle.dates.specs.Answers.{studyDayOf}
+use Rattle.records.specs.Refusals.{wrongSize, largeMeasured, setBeyond, sizedUnmeasured, withoutDisease, outsideLimits, notZero, refusalOfRead}
+use Rattle.criteria.specs.Sums.{measuredSum, allMeasured}
+use Rattle.criteria.specs.Targets.{allGone, grown, shrunk, targetAnswer}
+use Rattle.criteria.specs.Nadir.{afterVisit}
+use Rattle.criteria.specs.Overall.{overallAnswer}
+use Rattle.endpoints.specs.Lawful.{measuredBeyond, fitsBy}
+use Rattle.endpoints.specs.Pfs.{gapLimit, earlyDeath}
+use Rattle.endpoints.specs.Settled.{settledFrom, pfsSettledBy, bestSettledBy, durationSettledBy}
+use Rattle.held.specs.Range.{inRange}
+use Rattle.held.specs.Visits.{eventAfter, countedAfter}
+use Rattle.opening.specs.Opening.{blank}
+use Rattle.placing.specs.Added.{answerOn, visitAdded}
+use Rattle.placing.specs.Refusals.{refusalOn}
+use Rattle.outcome.specs.Promises.{refusalHeld, nextSubject, outcomeOf, readingOf}
+use Rattle.outcome.specs.Examples.{FirstRefusals, ReadAtTheEdges, ValuesOfCases}
+
+pub first-refusals : FirstRefusals
+unfolding leapYear daysInMonth dateExists daysOfYears daysOfMonths dayNumber studyDayOf wrongSize largeMeasured setBeyond sizedUnmeasured withoutDisease outsideLimits notZero refusalOfRead measuredSum allMeasured allGone grown shrunk targetAnswer afterVisit overallAnswer measuredBeyond fitsBy inRange eventAfter countedAfter blank answerOn visitAdded refusalOn refusalHeld nextSubject readingOf
+first-refusals =
+    record {
+      outOfRange = refl;
+      withoutDate = refl;
+      sizeUnmeasured = refl;
+      secondBaseline = refl;
+      fitting = refl;
+      kept = refl;
+      next = refl;
+      readOutOfRange = refl;
+    }
+
+pub read-at-the-edges : ReadAtTheEdges
+unfolding leapYear daysInMonth dateExists gapLimit earlyDeath settledFrom pfsSettledBy bestSettledBy durationSettledBy inRange outcomeOf readingOf
+read-at-the-edges = record { opened = refl; afterTherapy = refl; responded = refl; afterDeath = refl; printed = refl }
+
+pub values-of-cases : ValuesOfCases
+values-of-cases = record { outOfRange = refl; pfsSettled = refl; bestSettled = refl; durationSettled = refl }

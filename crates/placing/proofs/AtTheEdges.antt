@@ -1,0 +1,52 @@
+-- The examples are computed by the definitions. By its name this file is checked first, so that a wrong definition is refused at an example.
+-- Assumes nothing.
+use mathlib.Core.Path.{refl}
+use Rattle.dates.specs.Calendar.{leapYear, daysInMonth, dateExists, daysOfYears, daysOfMonths, dayNumber}
+use Rattle.dates.specs.Answers.{studyDayOf}
+use Rattle.criteria.specs.Sums.{measuredSum, allMeasured}
+use Rattle.criteria.specs.Targets.{allGone, grown, shrunk, targetAnswer}
+use Rattle.criteria.specs.Nadir.{afterVisit}
+use Rattle.criteria.specs.Overall.{overallAnswer}
+use Rattle.criteria.specs.Change.{changeBetween, changeOf}
+use Rattle.endpoints.specs.Lawful.{measuredBeyond, fitsBy}
+use Rattle.held.specs.Visits.{eventAfter, countedAfter}
+use Rattle.placing.specs.Added.{answerOn, visitAdded, therapyAdded, deathAdded}
+use Rattle.placing.specs.Refusals.{refusalOn}
+use Rattle.placing.specs.Examples.{NumbersOfCases, FirstRefusals, AddedAtTheEdges, LinesAtTheEdges}
+
+pub numbers-of-cases : NumbersOfCases
+numbers-of-cases = record { additions = refl; noVisit = refl; visit = refl }
+
+pub first-refusals : FirstRefusals
+unfolding leapYear daysInMonth dateExists daysOfYears daysOfMonths dayNumber studyDayOf measuredBeyond fitsBy refusalOn
+first-refusals =
+    record {
+      fitting = refl;
+      secondBaseline = refl;
+      afterDeath = refl;
+      visitOnLatest = refl;
+      therapyBefore = refl;
+      therapyOnLatest = refl;
+      deathBefore = refl;
+      deathOnLatest = refl;
+      beforeRandomisation = refl;
+      misfitOnLatest = refl;
+      statusNA = refl;
+      beyondCount = refl;
+    }
+
+pub added-at-the-edges : AddedAtTheEdges
+unfolding leapYear daysInMonth dateExists daysOfYears daysOfMonths dayNumber studyDayOf measuredSum allMeasured allGone grown shrunk targetAnswer afterVisit overallAnswer eventAfter countedAfter answerOn visitAdded therapyAdded deathAdded
+added-at-the-edges =
+    record {
+      visit = refl;
+      therapy = refl;
+      death = refl;
+      afterTherapy = refl;
+      afterProgression = refl;
+      deathAfterTherapy = refl;
+    }
+
+pub lines-at-the-edges : LinesAtTheEdges
+unfolding leapYear daysInMonth dateExists daysOfYears daysOfMonths dayNumber studyDayOf measuredSum allMeasured allGone grown shrunk targetAnswer overallAnswer changeBetween changeOf answerOn
+lines-at-the-edges = record { visit = refl; therapy = refl; death = refl; afterProgression = refl; newLesion = refl }

@@ -1,0 +1,13 @@
+-- The examples of the output are computed by the definitions. By its name this file is checked behind the round trips, so that bytes that are not the
+-- record's are refused there.
+-- Assumes nothing.
+use mathlib.Core.Path.{refl}
+use Rattle.dates.specs.Calendar.{leapYear, daysInMonth, dateExists}
+use Rattle.records.specs.Refusals.{wrongSize, setBeyond, withoutDisease, outsideLimits, notZero, refusalOfRead}
+use Rattle.codec.specs.Bytes.{recordNumber, bytesOf}
+use Rattle.writing.specs.Writing.{refusalOfWrite, outputOf}
+use Rattle.writing.specs.Examples.{Outputs}
+
+pub outputs : Outputs
+unfolding leapYear daysInMonth dateExists wrongSize setBeyond withoutDisease outsideLimits notZero refusalOfRead recordNumber bytesOf refusalOfWrite outputOf
+outputs = record { intoEleven = refl; intoThirteen = refl; tooShort = refl; badRecord = refl }
