@@ -1,6 +1,6 @@
 -- Both round trips and the printed baseline, from the promises of reading and writing.
 -- Assumes nothing.
-use mathlib.Core.Path.{_≡_, refl, sym, _∙_}
+use mathlib.Core.Path.{_≡_, refl, sym, _∙_, ap}
 use mathlib.Core.List.{List, _++_}
 use Prim.Native.Nat.{ℕ, _≤_}
 use lib.ListN.{length, take, drop}
@@ -26,13 +26,15 @@ module _ (r : Record) (out last : List ℕ) (a : WriteAnswer) (fine : refusalOf 
   done : writeNumber a ≡ 0
   done = w .answer ∙ not-refused
 
+  -- the first round trip needs the 11 bytes alone
+  first-bytes : take recordLength last ≡ bytesOf r
+  unfolding bytesOf outputOf
+  first-bytes = ap (take recordLength) (w .left) ∙ rw not-refused
+
+  -- and the second what stands past them too
   stored : last ≡ bytesOf r ++ drop recordLength out
   unfolding outputOf
   stored = w .left ∙ rw not-refused
-
-  first-bytes : take recordLength last ≡ bytesOf r
-  unfolding bytesOf
-  first-bytes = rw stored
 
 printed-fine : refusalOf printedRecord ≡ 0
 unfolding refusalOfRead dateExists leapYear daysInMonth outsideLimits notZero withoutDisease wrongSize setBeyond
