@@ -1,31 +1,25 @@
 -- The fields of a record that no refusal meets fit the layout, and the bytes of its number are those of its two parts.
 -- Assumes nothing.
-use mathlib.Core.Path.{_≡_, refl, sym, _∙_, ap}
+use mathlib.Core.Path.{_≡_, refl, sym}
 use mathlib.Core.Bool.{Bool, true, false}
 use mathlib.Core.List.{List, [], _∷_, _++_}
 use Prim.Native.Nat.{ℕ, _^_, _<_, _≤_}
 use native.Mathlib.Omega.{arith}
 use lib.Dec.{lit<}
-use lib.ListN.{getD, length, drop}
+use lib.ListN.{getD}
 use Rattle.packing.specs.Layout.{total, pack, unpack, Fit, bytes}
 use Rattle.packing.proofs.Packing.{pack-lt}
 use Rattle.packing.proofs.Append.{pack-append, unpack-parts, fit-append}
 use Rattle.dates.specs.Calendar.{dateExists}
 use Rattle.dates.proofs.Days.{exists, day-small}
-use Rattle.records.specs.Form.{dateOf, Five, kindNumber, statusNumber}
-use Rattle.records.specs.Refusals.{mostTargets, largestSize, outsideLimits, notZero, checkNumber, refusalOf}
-use Rattle.records.specs.declared.Record.{Record}
-use Rattle.records.specs.declared.CheckAnswer.{CheckAnswer}
-use Rattle.records.specs.declared.CheckAnswer.the-variants.{Passed}
+use Rattle.records.specs.Form.{dateOf, kindNumber, statusNumber}
+use Rattle.records.specs.Refusals.{mostTargets, largestSize, outsideLimits, notZero}
 use Rattle.records.specs.declared.Entry.{Entry}
 use Rattle.records.specs.declared.Entry.the-variants.{Baseline, Visit, Therapy, Death}
 use Rattle.records.specs.declared.Status.{Status}
 use Rattle.records.specs.declared.Status.the-variants.{NA, CR, NN, PD, NE}
-use Rattle.records.proofs.Passed.{passes, small-baseline, small-sizes}
-use Rattle.codec.specs.Bytes.{bit, headLayout, targetsLayout, bodyLayout, headFields, targetFields, bodyFields, recordLength, recordNumber, bytesOf}
-use Rattle.writing.specs.Writing.{Writes}
-use Rattle.writing.specs.declared.WriteAnswer.the-variants.{Done}
-use Rattle.writing.proofs.Returns.{writes-stored}
+use Rattle.records.proofs.Passed.{small-baseline, small-sizes}
+use Rattle.codec.specs.Bytes.{bit, headLayout, targetsLayout, bodyLayout, headFields, targetFields, bodyFields, recordLength, recordNumber}
 
 bit-lt : (b : Bool) → bit b < 2
 bit-lt true = omega arith
@@ -89,7 +83,7 @@ body-total (Visit v) = refl
 body-total (Therapy d) = refl
 body-total (Death d) = refl
 
-two-parts : (e : Entry) (m : List Bool) (s : List ℕ) (head body : ℕ) → dateExists (dateOf e) ≡ true → outsideLimits e m s ≡ false →
+pub two-parts : (e : Entry) (m : List Bool) (s : List ℕ) (head body : ℕ) → dateExists (dateOf e) ≡ true → outsideLimits e m s ≡ false →
     notZero e m s ≡ false → head ≡ pack headLayout (headFields (kindNumber e) (dateOf e)) → body ≡ pack (bodyLayout e) (bodyFields e m s) →
     unpack (bytes 3) head ++ unpack (bytes 8) body ≡ unpack (bytes recordLength) (recordNumber e m s)
 unfolding recordNumber
@@ -98,14 +92,3 @@ two-parts e m s head body d l z he be =
     let below : body < 2 ^ 64 = rw be (rw (body-total e) at (pack-lt (bodyLayout e) (bodyFields e m s) f)) in
     rw (pack-append headLayout (bodyLayout e) (headFields (kindNumber e) (dateOf e)) (bodyFields e m s) (head-fits e d), body-total e, ← he, ← be)
     (sym (unpack-parts (bytes 3) (bytes 8) head body below))
-
--- what is left in the output where both parts are stored
-pub writes-parts : (r : Record) (out last : List ℕ) (a : CheckAnswer) (head body : ℕ) → Five r → checkNumber a ≡ refusalOf r → a ≡ Passed →
-    recordLength ≤ length out → head ≡ pack headLayout (headFields (kindNumber (r .entry)) (dateOf (r .entry))) →
-    body ≡ pack (bodyLayout (r .entry)) (bodyFields (r .entry) (r .marks) (r .sizes)) →
-    last ≡ (unpack (bytes 3) head ++ unpack (bytes 8) body) ++ drop recordLength out → Writes r out Done last
-unfolding bytesOf
-writes-parts r out last a head body f e p h he be l =
-    let q = passes r false false (sym e ∙ ap checkNumber p) in
-    writes-stored r out a f e p last h
-    (l ∙ ap (λ (b : List ℕ). b ++ drop recordLength out) (two-parts (r .entry) (r .marks) (r .sizes) head body (q .date) (q .limits) (q .zeros) he be))

@@ -9,10 +9,11 @@ use Rattle.dates.specs.Calendar.{leapYear, daysInMonth, dateExists}
 use Rattle.records.specs.Refusals.{wrongSize, setBeyond, withoutDisease, outsideLimits, notZero, refusalOfRead, refusalOf}
 use Rattle.records.specs.declared.Record.{Record}
 use Rattle.codec.specs.Bytes.{recordLength, recordNumber, bytesOf, bytesNumber}
+use Rattle.codec.specs.Examples.{printedBaseline, printedBytes}
 use Rattle.codec.specs.Reading.{baselineIn, rawIn, refusalOfNumber, refusalOfBytes, recordOfBytes}
 use Rattle.codec.proofs.Fine.{found-fine}
 use Rattle.writing.specs.Writing.{writeNumber, refusalOfWrite, outputOf, Writes}
-use Rattle.writing.specs.Laws.{printedRecord, printedBytes, RoundTrips}
+use Rattle.writing.specs.Laws.{RoundTrips}
 use Rattle.writing.specs.declared.WriteAnswer.{WriteAnswer}
 use Rattle.writing.proofs.ReadBack.{no-refusal-back, record-back}
 use Rattle.writing.proofs.WrittenBack.{bytes-back}
@@ -36,11 +37,11 @@ module _ (r : Record) (out last : List ℕ) (a : WriteAnswer) (fine : refusalOf 
   unfolding outputOf
   stored = w .left ∙ rw not-refused
 
-printed-fine : refusalOf printedRecord ≡ 0
+printed-fine : refusalOf printedBaseline ≡ 0
 unfolding refusalOfRead dateExists leapYear daysInMonth outsideLimits notZero withoutDisease wrongSize setBeyond
 printed-fine = refl
 
-printed-bytes : bytesOf printedRecord ≡ printedBytes
+printed-bytes : bytesOf printedBaseline ≡ printedBytes
 unfolding bytesOf recordNumber
 printed-bytes = refl
 
@@ -48,7 +49,7 @@ printed-accepted : refusalOfBytes printedBytes ≡ 0
 unfolding refusalOfBytes bytesNumber refusalOfNumber rawIn baselineIn refusalOfRead dateExists leapYear daysInMonth outsideLimits notZero withoutDisease wrongSize setBeyond
 printed-accepted = refl
 
-printed-record : recordOfBytes printedBytes ≡ printedRecord
+printed-record : recordOfBytes printedBytes ≡ printedBaseline
 unfolding recordOfBytes bytesNumber rawIn baselineIn
 printed-record = rw printed-accepted
 
@@ -69,7 +70,7 @@ round-trips =
           );
       printedRead = λ x q. (q .answer ∙ printed-accepted, q .found ∙ printed-record);
       printedWritten = λ out last a room w. (
-        done printedRecord out last a printed-fine room w,
-        stored printedRecord out last a printed-fine room w ∙ rw printed-bytes,
+        done printedBaseline out last a printed-fine room w,
+        stored printedBaseline out last a printed-fine room w ∙ rw printed-bytes,
       );
     }
