@@ -24,6 +24,7 @@ calendar-edges =
       noLeapDay = refl;
       year1990 = refl;
       year1992 = refl;
+      nextYear = refl;
       firstDays = refl;
       firstDaysOfLeapYear = refl;
       last30 = refl;

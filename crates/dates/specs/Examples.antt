@@ -42,9 +42,10 @@ pub record CalendarEdges : Type 0 where
   pub dayAfter : dayNumberOf (ymd 2000 3 1) ≡ on 3713
   pub february30 : dayNumberOf (ymd 2000 2 30) ≡ noSuchDate
   pub noLeapDay : dayNumberOf (ymd 2023 2 29) ≡ noSuchDate
-  -- the last day of a common year and of a leap year
+  -- the last day of a common year and of a leap year, and the day after
   pub year1990 : dayNumberOf (ymd 1990 12 31) ≡ on 365
   pub year1992 : dayNumberOf (ymd 1992 12 31) ≡ on 1096
+  pub nextYear : dayNumberOf (ymd 1993 1 1) ≡ on 1097
   -- each month of a common year and of a leap year: its first day, and whether it has a 30th and a 31st
   pub firstDays : map (λ (m : ℕ). dayNumber (ymd 1990 m 1)) months
       ≡ 1 ∷ 32 ∷ 60 ∷ 91 ∷ 121 ∷ 152 ∷ 182 ∷ 213 ∷ 244 ∷ 274 ∷ 305 ∷ 335 ∷ []

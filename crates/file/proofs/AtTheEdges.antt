@@ -1,17 +1,50 @@
 -- 13 of an empty file, 14 at the edges, the first refusal of calls and the values of cases, by computation; checked first, by its name.
 -- Assumes nothing.
 use mathlib.Core.Path.{refl}
-use Rattle.file.specs.File.{startsLate, verdictOf}
+use Rattle.dates.specs.Calendar.{leapYear, daysInMonth, dateExists, daysOfYears, daysOfMonths, dayNumber}
+use Rattle.dates.specs.Answers.{studyDayOf}
+use Rattle.records.specs.Refusals.{largeMeasured, sizedUnmeasured, outsideLimits, notZero, refusalOfRead}
+use Rattle.codec.specs.Bytes.{bytesNumber}
+use Rattle.codec.specs.Reading.{statusFrom, visitIn, rawIn, refusalOfNumber, refusalOfBytes, recordOfBytes}
 use Rattle.parts.specs.Parts.{badLength}
-use Rattle.file.specs.Examples.{EmptyFile, LateAtTheEdges, FirstOfCalls, ValuesOfCases}
+use Rattle.criteria.specs.Sums.{measuredSum, baselineSum, allMeasured}
+use Rattle.criteria.specs.Targets.{allGone, grown, shrunk, targetAnswer}
+use Rattle.criteria.specs.Nadir.{nadirOf}
+use Rattle.criteria.specs.Overall.{overallAnswer}
+use Rattle.endpoints.specs.Lawful.{measuredBeyond, fitsBy}
+use Rattle.endpoints.specs.Visits.{judge}
+use Rattle.endpoints.specs.Pfs.{pfs}
+use Rattle.endpoints.specs.Best.{best, duration}
+use Rattle.endpoints.specs.Settled.{pfsSettledBy, bestSettledBy, durationSettledBy}
+use Rattle.held.specs.Range.{inRange}
+use Rattle.opening.specs.Opening.{blank}
+use Rattle.placing.specs.Refusals.{refusalOn}
+use Rattle.outcome.specs.Promises.{outcomeOf}
+use Rattle.file.specs.File.{startsLate, verdictOf}
+use Rattle.file.specs.Taking.{verdictHeld}
+use Rattle.file.specs.Examples.{EmptyFile, LateAtTheEdges, TakingAtTheEdges, FirstOfCalls, ValuesOfCases}
 
 pub empty-file : EmptyFile
 unfolding verdictOf badLength
 empty-file = record { nothing = refl }
 
 pub late-at-the-edges : LateAtTheEdges
-unfolding startsLate
-late-at-the-edges = record { before = refl; sameDay = refl; after = refl; withoutDuration = refl }
+unfolding leapYear daysInMonth dateExists daysOfYears daysOfMonths dayNumber studyDayOf measuredSum baselineSum allMeasured allGone grown shrunk targetAnswer nadirOf overallAnswer judge pfs best duration pfsSettledBy bestSettledBy durationSettledBy inRange blank outcomeOf startsLate verdictHeld
+late-at-the-edges =
+    record {
+      before = refl;
+      sameDay = refl;
+      after = refl;
+      withoutDuration = refl;
+      last = refl;
+      outOfRange = refl;
+      heldLate = refl;
+      heldOnTime = refl;
+    }
+
+pub taking-at-the-edges : TakingAtTheEdges
+unfolding leapYear daysInMonth dateExists daysOfYears daysOfMonths dayNumber studyDayOf largeMeasured sizedUnmeasured outsideLimits notZero refusalOfRead bytesNumber statusFrom visitIn rawIn refusalOfNumber refusalOfBytes recordOfBytes measuredBeyond fitsBy refusalOn
+taking-at-the-edges = record { fitting = refl; kind0 = refl; sameDay = refl }
 
 pub first-of-calls : FirstOfCalls
 first-of-calls = record { readFirst = refl; thenAdded = refl; atSecond = refl; none = refl }

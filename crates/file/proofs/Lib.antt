@@ -4,7 +4,7 @@ pub mod Counting
 pub mod Returns
 pub mod PlainTaken
 pub mod Follows
-pub mod Loop
 pub mod Called
 pub mod Singly
-pub mod WholeFiles
+pub mod Turns
+pub mod WorkedExamples

@@ -1,10 +1,14 @@
 -- Document 01, "Where a call stops": 13 of an empty file, 14 of a response that starts before the day on which PFS ends, on it, and after it, proved in
--- proofs/AtTheEdges.antt; and whole files, the printed example among them, proved in proofs/WholeFiles.antt.
+-- proofs/AtTheEdges.antt; and whole files, the printed example among them, proved in proofs/WorkedExamples.antt.
 -- Assumes nothing.
 use mathlib.Core.Path.{_≡_}
 use mathlib.Core.Bool.{true, false}
 use mathlib.Core.List.{List, [], _∷_, _++_}
 use Prim.Native.Nat.{ℕ}
+use Rattle.dates.specs.Laws.{ymd}
+use Rattle.records.specs.declared.Record.{Record}
+use Rattle.records.specs.declared.Status.the-variants as S
+use Rattle.records.specs.Examples.{baselineDated, visitDated}
 use Rattle.codec.specs.Examples.{eleven, printedBytes, printedVisitBytes, oneTargetBytes, missingBytes, therapyBytes, deathBytes}
 use Rattle.codec.specs.declared.ReadAnswer.{ReadAnswer}
 use Rattle.codec.specs.declared.ReadAnswer.the-variants as R
@@ -12,19 +16,45 @@ use Rattle.codec.specs.declared.ReadResult.{ReadResult}
 use Rattle.codec.specs.Reading.{blank}
 use Rattle.criteria.specs.Words.{PR, NE}
 use Rattle.endpoints.specs.Values.{on, EVENT, CENSORED, event, censored, noDuration, forDays, Outcome}
-use Rattle.outcome.specs.Examples.{result, told}
-use Rattle.file.specs.File.{refused, accepted, startsLate, verdictOf, fileValues}
+use Rattle.endpoints.specs.declared.MaybeDay.the-variants as M
+use Rattle.held.specs.Examples.{onDay, events, counts, printedOpened, printedVisited}
+use Rattle.opening.specs.Opening as O
+use Rattle.outcome.specs.Examples.{heldWith, result, values}
+use Rattle.file.specs.File.{refused, accepted, startsLate, verdictFrom, verdictOf, fileValues}
+use Rattle.file.specs.Taking.{refusalTaking, verdictHeld}
 use Rattle.file.specs.Singly.{never, at, numberOf, firstRefusal}
 use Rattle.file.specs.declared.FileAnswer.the-variants as F
 
 pub record EmptyFile : Type 0 where
   pub nothing : verdictOf [] ≡ refused 13 0
 
+-- one target of 100, and 60 on days 90, 120 and 50
+abbrev pub sixty : ℕ → ℕ → Record
+sixty month day = visitDated (ymd 2020 month day) S.NA false (true ∷ []) (60 ∷ [])
+
+abbrev pub fallingDays : List Record
+fallingDays = baselineDated (ymd 2020 1 1) true false 1 [] (100 ∷ []) ∷ sixty 3 30 ∷ sixty 4 29 ∷ sixty 2 19 ∷ []
+
 pub record LateAtTheEdges : Type 0 where
   pub before : startsLate (forDays CENSORED 2) (on 42) (censored 43) ≡ false
   pub sameDay : startsLate (forDays CENSORED 1) (on 43) (censored 43) ≡ false
   pub after : startsLate (forDays CENSORED 1) (on 44) (censored 43) ≡ true
   pub withoutDuration : startsLate noDuration (on 44) (censored 43) ≡ false
+  -- with the index of the last record; the days of these four fall, as in no lawful list: PR 90, PR 120, PR 50
+  pub last : verdictFrom fallingDays 4 [] ≡ refused 14 3
+  -- and on the held subject, behind 12
+  pub outOfRange : verdictHeld O.blank 3 ≡ refused 12 3
+  pub heldLate : verdictHeld (heldWith true 120 false M.Absent (events M.Absent 50 (onDay 50)) (counts (onDay 90) M.Absent false true true false)) 3
+      ≡ refused 14 3
+  pub heldOnTime : verdictHeld (heldWith true 120 false M.Absent (events M.Absent 120 (onDay 120)) (counts (onDay 90) M.Absent false true true false)) 3
+      ≡ accepted
+      (record { pfs = censored 120; best = PR; duration = forDays CENSORED 31; pfsSettled = false; bestSettled = false; durationSettled = false })
+
+-- the refusals of a later record of a file: 2 to 5, then 8 to 11
+pub record TakingAtTheEdges : Type 0 where
+  pub fitting : refusalTaking printedOpened printedVisitBytes ≡ 0
+  pub kind0 : refusalTaking printedOpened (eleven []) ≡ 2
+  pub sameDay : refusalTaking printedVisited printedVisitBytes ≡ 10
 
 -- the file of the printed example: 2020-01-01, 02-12 (24, 12), 03-25 (0, 9) and 05-06 (0, 15)
 abbrev pub printedFile : List ℕ
@@ -75,4 +105,4 @@ pub record FirstOfCalls : Type 0 where
 -- the values of the declared cases
 pub record ValuesOfCases : Type 0 where
   pub refusal : fileValues (F.Refused (record { number = 9; index = 10 })) ≡ refused 9 10
-  pub outcome : fileValues (F.Accepted (result false true false)) ≡ accepted (told false true false)
+  pub outcome : fileValues (F.Accepted (result false true false)) ≡ accepted (values false true false)

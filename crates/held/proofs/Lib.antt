@@ -1,5 +1,5 @@
-pub mod AtTheEdges
 pub mod Follows
 pub mod Ordered
 pub mod Within
 mod Returns
+pub mod WorkedExamples

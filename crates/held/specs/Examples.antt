@@ -1,5 +1,5 @@
 -- Document 01, "Where a call stops", 12: subjects on either side of each limit; "Outcome": what one visit more makes of what is held; and the subject of
--- the printed example. Proved in proofs/AtTheEdges.antt.
+-- the printed example. Proved in proofs/WorkedExamples.antt.
 -- Assumes nothing.
 use mathlib.Core.Path.{_≡_}
 use mathlib.Core.Bool.{Bool, true, false}
@@ -91,12 +91,13 @@ pub record RangeAtTheEdges : Type 0 where
   pub start : map (λ (d : ℕ). inRange (onDays 1 M.Absent noEvents (counts M.Absent (onDay d) false false false false))) (0 ∷ 40178 ∷ [])
       ≡ false ∷ false ∷ []
 
--- SD 43, NE 85, PD 127, SD 169: v moves with each visit before the progression, the last evaluable visit with the first
+-- SD 43, NE 85, PD 127, SD 169 or PD 169: v moves with each visit before the progression, which is the first PD, the last evaluable visit with SD
 pub record EventsAfter : Type 0 where
   pub sd43 : eventAfter noEvents (day 43) SD ≡ events M.Absent 43 (onDay 43)
   pub ne85 : eventAfter (events M.Absent 43 (onDay 43)) (day 85) NE ≡ events M.Absent 85 (onDay 43)
   pub pd127 : eventAfter (events M.Absent 85 (onDay 43)) (day 127) PD ≡ events (onDay 127) 85 (onDay 43)
   pub sd169 : eventAfter (events (onDay 127) 85 (onDay 43)) (day 169) SD ≡ events (onDay 127) 85 (onDay 43)
+  pub pd169 : eventAfter (events (onDay 127) 85 (onDay 43)) (day 169) PD ≡ events (onDay 127) 85 (onDay 43)
 
 -- behind a first CR on day 43
 abbrev pub afterCR : CountingVisits
@@ -118,5 +119,9 @@ pub record CountsAfter : Type 0 where
   -- behind a PR of day 43, a CR of day 71 starts a run of its own
   pub crAfterPR : countedAfter (counts (onDay 43) M.Absent false false true false) (day 71) CR
       ≡ counts (onDay 43) (onDay 71) false true true false
-  -- what was shown stays
-  pub shown : countedAfter (counts (onDay 43) (onDay 43) true true true true) (day 99) NE ≡ counts (onDay 43) (onDay 43) true true true true
+  -- an NE leaves everything as it is: behind PR 43; PR 43 and CR 71; CR 43 and CR 71; PD 43
+  pub neAfterPR : countedAfter (counts (onDay 43) M.Absent false false true false) (day 99) NE ≡ counts (onDay 43) M.Absent false false true false
+  pub neAfterPRAndCR : countedAfter (counts (onDay 43) (onDay 71) false true true false) (day 99) NE
+      ≡ counts (onDay 43) (onDay 71) false true true false
+  pub neAfterTwoCR : countedAfter (counts (onDay 43) (onDay 43) true true true false) (day 99) NE ≡ counts (onDay 43) (onDay 43) true true true false
+  pub neAfterPD : countedAfter (counts M.Absent M.Absent false false false true) (day 99) NE ≡ counts M.Absent M.Absent false false false true

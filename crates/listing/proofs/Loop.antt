@@ -28,7 +28,7 @@ use Rattle.file.specs.File.{refused, accepted, startsLate, verdictOf, fileValue
 use Rattle.file.specs.Taking.{TakesFirst, Takes, verdictHeld, Ends}
 use Rattle.file.proofs.Verdicts.{apart, accepted-same}
 use Rattle.parts.proofs.Cut.{partAt}
-use Rattle.file.proofs.Loop.{from, Standing, bad, first-refused, first-standing, turn-refused, turn, ended}
+use Rattle.file.proofs.Turns.{from, Standing, bad, first-refused, first-standing, turn-refused, turn, ended}
 use Rattle.text.specs.Text.{linesText, linesInOrder}
 use Rattle.text.proofs.Texts.{lines-append}
 use Rattle.listing.specs.Writing.{Wrote, AllWritable, SmallIndex, mostLines, JudgesInto}

@@ -1,4 +1,4 @@
-pub mod AtTheEdges
 pub mod Follows
 pub mod Within
 mod Returns
+pub mod WorkedExamples

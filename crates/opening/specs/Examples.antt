@@ -1,11 +1,11 @@
 -- Document 01, "Where a call stops", 3 to 5 and 7: the numbers of the cases, the subject that the printed baseline opens, and the blank beside a refusal.
--- Proved in proofs/AtTheEdges.antt.
+-- Proved in proofs/WorkedExamples.antt.
 -- Assumes nothing.
 use mathlib.Core.Path.{_≡_}
-use mathlib.Core.Bool.{false}
+use mathlib.Core.Bool.{true, false}
 use mathlib.Core.List.{[], _∷_, map}
 use Rattle.dates.specs.Laws.{ymd}
-use Rattle.records.specs.Examples.{therapyDated, deathDated}
+use Rattle.records.specs.Examples.{baselineDated, therapyDated, deathDated}
 use Rattle.endpoints.specs.declared.MaybeDay.the-variants as M
 use Rattle.endpoints.specs.AddingExamples.{printedBaseline, visited}
 use Rattle.held.specs.declared.Subject.{Subject}
@@ -31,6 +31,7 @@ zeros =
 pub record OpenedAtTheEdges : Type 0 where
   pub numbers : map openNumber (O.Done ∷ O.NoSuchDate ∷ O.OutsideLimits ∷ O.NotZero ∷ O.NotBaseline ∷ []) ≡ 0 ∷ 3 ∷ 4 ∷ 5 ∷ 7 ∷ []
   pub printed : openedSubject (printedBaseline (ymd 2020 1 1)) ≡ printedOpened
+  pub withoutNontarget : openedSubject (baselineDated (ymd 2020 1 1) true false 1 [] (100 ∷ [])) .nontarget ≡ false
   -- a refusal carries its number and nothing else: beside a baseline without a date (3), a visit, a therapy and a death (7) stands the blank
   pub noDate : openedSubject (printedBaseline (ymd 2021 2 29)) ≡ zeros
   pub visit : openedSubject visited ≡ zeros

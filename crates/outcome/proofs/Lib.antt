@@ -1,6 +1,6 @@
-pub mod AtTheEdges
 pub mod Follows
 pub mod Within
 pub mod Runs
 pub mod Demand
 mod Returns
+pub mod WorkedExamples

@@ -1,24 +1,30 @@
--- Document 01, "Where a call stops", 12 before 3 to 5 before 8 to 11, and "Outcome" and "Settled" read from a held subject; the values of the declared
--- cases. Proved in proofs/AtTheEdges.antt.
+-- Document 01, "Where a call stops", 12 before 3 to 5 before 8 to 11, and "Outcome" and "Settled" read from a held subject; the replies of a list of
+-- calls, and the values of the declared cases. Proved in proofs/WorkedExamples.antt.
 -- Assumes nothing.
 use mathlib.Core.Path.{_≡_}
 use mathlib.Core.Bool.{Bool, true, false}
 use mathlib.Core.List.{[], _∷_}
+use Prim.Native.Nat.{ℕ}
 use Rattle.dates.specs.Laws.{ymd}
-use Rattle.records.specs.Examples.{visitDated}
+use Rattle.records.specs.Examples.{visitDated, therapyDated}
 use Rattle.records.specs.declared.Status.the-variants as S
-use Rattle.criteria.specs.Words.{PR, SD, NE}
+use Rattle.criteria.specs.Words.{Word, CR, PR, SD, PD, NE}
 use Rattle.endpoints.specs.declared.BestResponse.the-variants as B
 use Rattle.endpoints.specs.declared.DurationAnswer.the-variants as D
+use Rattle.endpoints.specs.declared.MaybeDay.{MaybeDay}
 use Rattle.endpoints.specs.declared.MaybeDay.the-variants as M
 use Rattle.endpoints.specs.declared.PfsStatus.the-variants as E
-use Rattle.endpoints.specs.Values.{Outcome, CENSORED, EVENT, event, censored, noDuration, forDays}
+use Rattle.endpoints.specs.Values.{Pfs, Duration, Outcome, CENSORED, EVENT, event, censored, noDuration, forDays}
+use Rattle.endpoints.specs.Adding.{add, read}
 use Rattle.endpoints.specs.AddingExamples.{printedBaseline, visited}
+use Rattle.held.specs.declared.EventDays.{EventDays}
+use Rattle.held.specs.declared.CountingVisits.{CountingVisits}
 use Rattle.held.specs.declared.Subject.{Subject}
-use Rattle.held.specs.Examples.{day, onDay, events, counts, subjectWith, printedOpened, printedVisited}
+use Rattle.held.specs.Examples.{day, onDay, events, counts, printedOpened, printedVisited}
 use Rattle.opening.specs.Opening.{blank}
 use Rattle.placing.specs.Examples.{treated, died}
-use Rattle.outcome.specs.Promises.{refusalHeld, nextSubject, refused, outcome, readingValues, readingOf}
+use Rattle.outcome.specs.Promises.{refusalHeld, nextSubject, Reading, refused, outcome, readingValues, readingOf}
+use Rattle.outcome.specs.Demand3.{added, told, replies}
 use Rattle.outcome.specs.declared.OutcomeAnswer.the-variants as A
 use Rattle.outcome.specs.declared.OutcomeResult.{OutcomeResult}
 
@@ -30,48 +36,76 @@ pub record FirstRefusals : Type 0 where
   pub secondBaseline : refusalHeld printedOpened (printedBaseline (ymd 2020 1 1)) ≡ 8
   pub fitting : refusalHeld printedOpened visited ≡ 0
   -- the subject keeps every value where a refusal meets
-  pub kept : nextSubject printedVisited visited ≡ printedVisited
+  pub keptEarly : nextSubject printedVisited (therapyDated (ymd 2020 2 11)) ≡ printedVisited
+  pub keptUnmeasured : nextSubject printedVisited (visitDated (ymd 2020 3 25) S.NN false [] (12 ∷ [])) ≡ printedVisited
+  pub keptOutOfRange : nextSubject blank (therapyDated (ymd 2020 2 11)) ≡ blank
   pub next : nextSubject printedOpened visited ≡ printedVisited
   -- reading meets 12 only
   pub readOutOfRange : readingOf blank ≡ refused 12
 
--- PR 43, PR 85 and PD 127, as in the printed example
-abbrev pub printedRead : Subject
-printedRead =
-    subjectWith (ymd 2020 1 1) 2 60 9 127 M.Absent (events (onDay 127) 85 (onDay 85)) (counts (onDay 43) M.Absent false true true true)
-
--- PR 43, PR 85, therapy 90
-abbrev pub respondedTreated : Subject
-respondedTreated =
+-- the subject of the printed example with other days, and with a missing baseline
+abbrev pub heldWith : Bool → ℕ → Bool → MaybeDay → EventDays → CountingVisits → Subject
+heldWith assessed latest therapy death event counted =
     record {
       randomisation = ymd 2020 1 1;
-      nontarget = true;
-      baseline = printedOpened .baseline;
-      earlier = record { nadir = 36 };
-      latest = day 90;
-      therapy = true;
-      death = M.Absent;
-      event = events M.Absent 85 (onDay 85);
-      counted = counts (onDay 43) M.Absent false true true false;
+      nontarget = assessed;
+      baseline = record { assessed = assessed; count = 0; nodes = printedOpened .baseline .nodes; sum = 0 };
+      earlier = record { nadir = 0 };
+      latest = day latest;
+      therapy = therapy;
+      death = death;
+      event = event;
+      counted = counted;
     }
 
+-- PFS, best response, duration, and the marks of the three
+abbrev pub reads : Pfs → Word → Duration → Bool → Bool → Bool → Reading
+reads pfs best duration pfsSettled bestSettled durationSettled =
+    outcome
+    (record { pfs = pfs; best = best; duration = duration; pfsSettled = pfsSettled; bestSettled = bestSettled; durationSettled = durationSettled })
+
 pub record ReadAtTheEdges : Type 0 where
-  pub opened : readingOf printedOpened
-      ≡ outcome (record { pfs = censored 1; best = NE; duration = noDuration; pfsSettled = false; bestSettled = false; durationSettled = false })
-  -- PR 43, therapy 50: S 0 1 1
-  pub afterTherapy : readingOf treated
-      ≡ outcome (record { pfs = censored 43; best = SD; duration = noDuration; pfsSettled = false; bestSettled = true; durationSettled = true })
+  pub opened : readingOf printedOpened ≡ reads (censored 1) NE noDuration false false false
+  -- PR 43, therapy 50: S 0 1 1; PR 43, death 50: S 1 1 1
+  pub afterTherapy : readingOf treated ≡ reads (censored 43) SD noDuration false true true
+  pub afterDeath : readingOf died ≡ reads (event 50) SD noDuration true true true
   -- PR 43, PR 85, therapy 90: S 0 1 0
-  pub responded : readingOf respondedTreated
-      ≡ outcome
-      (record { pfs = censored 85; best = PR; duration = forDays CENSORED 43; pfsSettled = false; bestSettled = true; durationSettled = false })
-  -- PR 43, death 50
-  pub afterDeath : readingOf died
-      ≡ outcome (record { pfs = event 50; best = SD; duration = noDuration; pfsSettled = true; bestSettled = true; durationSettled = true })
-  -- P EVENT 127, B PR, D EVENT 85, S 1 1 1
-  pub printed : readingOf printedRead
-      ≡ outcome
-      (record { pfs = event 127; best = PR; duration = forDays EVENT 85; pfsSettled = true; bestSettled = true; durationSettled = true })
+  pub responded : readingOf (heldWith true 90 true M.Absent (events M.Absent 85 (onDay 85)) (counts (onDay 43) M.Absent false true true false))
+      ≡ reads (censored 85) PR (forDays CENSORED 43) false true false
+  -- SD 127: nothing is settled, though it is later than day 93
+  pub late : readingOf (heldWith true 127 false M.Absent (events M.Absent 127 (onDay 127)) (counts M.Absent M.Absent false false true false))
+      ≡ reads (censored 127) SD noDuration false false false
+  -- CR 43, CR 71: S 0 1 0
+  pub complete : readingOf (heldWith true 71 false M.Absent (events M.Absent 71 (onDay 71)) (counts (onDay 43) (onDay 43) true true true false))
+      ≡ reads (censored 71) CR (forDays CENSORED 29) false true false
+  -- PD 30: best is PD
+  pub progressed : readingOf (heldWith true 30 false M.Absent (events (onDay 30) 1 M.Absent) (counts M.Absent M.Absent false false false true))
+      ≡ reads (event 30) PD noDuration true true true
+  -- the printed example, P EVENT 127, B PR, D EVENT 85, S 1 1 1, and a death of day 130 behind it
+  pub printed : readingOf
+      (heldWith true 130 false (onDay 130) (events (onDay 127) 85 (onDay 85)) (counts (onDay 43) M.Absent false true true true))
+      ≡ reads (event 127) PR (forDays EVENT 85) true true true
+  -- baseline missing: a visit of day 43 and death 50; a therapy of day 92, and one of day 93
+  pub missingDeath : readingOf
+      (heldWith false 50 false (onDay 50) (events M.Absent 43 M.Absent) (counts M.Absent M.Absent false false false false))
+      ≡ reads (event 50) NE noDuration true true true
+  pub missing92 : readingOf (heldWith false 92 true M.Absent (events M.Absent 1 M.Absent) (counts M.Absent M.Absent false false false false))
+      ≡ reads (censored 1) NE noDuration false true true
+  pub missing93 : readingOf (heldWith false 93 true M.Absent (events M.Absent 1 M.Absent) (counts M.Absent M.Absent false false false false))
+      ≡ reads (censored 1) NE noDuration true true true
+  -- NE 43 and death 120, after the early-death limit
+  pub lateDeath : readingOf (heldWith true 120 false (onDay 120) (events M.Absent 43 M.Absent) (counts M.Absent M.Absent false false false false))
+      ≡ reads (censored 1) NE noDuration true true true
+
+-- the replies of a list of calls on the printed baseline: the visit of day 43 added, read, added again (10), and a therapy on its day
+pub record RepliesAtTheEdges : Type 0 where
+  pub replied : replies (printedBaseline (ymd 2020 1 1)) (add visited ∷ read ∷ add visited ∷ add (therapyDated (ymd 2020 2 12)) ∷ read ∷ [])
+      ≡ added 0
+      ∷ told (reads (censored 43) SD noDuration false false false)
+      ∷ added 10
+      ∷ added 0
+      ∷ told (reads (censored 43) SD noDuration false true true)
+      ∷ []
 
 -- CENSORED 85, PR, CENSORED 43, with these marks of PFS, best and duration
 abbrev pub result : Bool → Bool → Bool → OutcomeResult
@@ -83,12 +117,12 @@ result pfs best duration =
       settled = record { pfs = pfs; best = best; duration = duration };
     }
 
-abbrev pub told : Bool → Bool → Bool → Outcome
-told pfs best duration =
+abbrev pub values : Bool → Bool → Bool → Outcome
+values pfs best duration =
     record { pfs = censored 85; best = PR; duration = forDays CENSORED 43; pfsSettled = pfs; bestSettled = best; durationSettled = duration }
 
 pub record ValuesOfCases : Type 0 where
   pub outOfRange : readingValues A.OutOfRange ≡ refused 12
-  pub pfsSettled : readingValues (A.Read (result true false false)) ≡ outcome (told true false false)
-  pub bestSettled : readingValues (A.Read (result false true false)) ≡ outcome (told false true false)
-  pub durationSettled : readingValues (A.Read (result false false true)) ≡ outcome (told false false true)
+  pub pfsSettled : readingValues (A.Read (result true false false)) ≡ outcome (values true false false)
+  pub bestSettled : readingValues (A.Read (result false true false)) ≡ outcome (values false true false)
+  pub durationSettled : readingValues (A.Read (result false false true)) ≡ outcome (values false false true)

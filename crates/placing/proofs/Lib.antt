@@ -1,5 +1,5 @@
-pub mod AtTheEdges
 pub mod Follows
 pub mod Within
 pub mod Follow
 mod Returns
+pub mod WorkedExamples

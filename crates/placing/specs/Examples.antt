@@ -1,5 +1,5 @@
 -- Document 01, "Where a call stops", 8 to 11, "Outcome" and "Change in size, file and listing": the numbers of the cases, which refusal comes first, the
--- subject and the line after one record more. Proved in proofs/AtTheEdges.antt.
+-- subject and the line after one record more. Proved in proofs/WorkedExamples.antt.
 -- Assumes nothing.
 use mathlib.Core.Path.{_≡_}
 use mathlib.Core.Bool.{Bool, true, false}
@@ -9,7 +9,7 @@ use Rattle.dates.specs.Laws.{ymd}
 use Rattle.records.specs.Examples.{visitDated, therapyDated, deathDated}
 use Rattle.records.specs.declared.Record.{Record}
 use Rattle.records.specs.declared.Status.the-variants as S
-use Rattle.criteria.specs.Words.{CR, PR, PD, NE, NN}
+use Rattle.criteria.specs.Words.{CR, PR, PD, NE, NA, NN}
 use Rattle.criteria.specs.Change.{signed}
 use Rattle.criteria.specs.declared.Target.the-variants as T
 use Rattle.criteria.specs.declared.Overall.the-variants as O
@@ -23,7 +23,7 @@ use Rattle.held.specs.declared.EventDays.{EventDays}
 use Rattle.held.specs.declared.CountingVisits.{CountingVisits}
 use Rattle.held.specs.Examples.{day, onDay, events, counts, printedOpened, printedVisited}
 use Rattle.placing.specs.Added.{dayOn, entryAdded}
-use Rattle.placing.specs.Lines.{visitValues, linesOn}
+use Rattle.placing.specs.Lines.{lineJudged, visitValues, linesOn}
 use Rattle.placing.specs.Refusals.{addNumber, refusalOn}
 use Rattle.placing.specs.declared.AddAnswer.the-variants as A
 use Rattle.placing.specs.declared.MaybeVisit.the-variants as J
@@ -34,6 +34,9 @@ pub record NumbersOfCases : Type 0 where
       (A.Done ∷ A.NoSuchDate ∷ A.OutsideLimits ∷ A.NotZero ∷ A.SecondBaseline ∷ A.AfterDeath ∷ A.TooEarly ∷ A.Misfit ∷ A.OutOfRange ∷ [])
       ≡ 0 ∷ 3 ∷ 4 ∷ 5 ∷ 8 ∷ 9 ∷ 10 ∷ 11 ∷ 12 ∷ []
   -- study day, target, non-target, overall, change
+  pub judgedVisit : lineJudged (day 85) S.NN
+      (record { target = T.CR; overall = O.PR; change = C.Decrease 850; after = record { nadir = 9 } })
+      ≡ record { day = 85; target = CR; nontarget = NN; overall = PR; change = signed true 850 }
   pub noVisit : visitValues J.Absent ≡ []
   pub visit : visitValues
       (J.Judged (record { day = day 85; target = T.CR; nontarget = S.NN; overall = O.PR; change = C.Decrease 850 }))
@@ -66,6 +69,21 @@ died = behind 50 false (onDay 50) (events M.Absent 43 (onDay 43)) response43
 abbrev pub progressed : Subject
 progressed = behind 43 false M.Absent (events (onDay 43) 1 M.Absent) (counts M.Absent M.Absent false false false true)
 
+-- a baseline without non-target disease, and a missing one
+abbrev pub opened : Bool → Subject
+opened assessed =
+    record {
+      randomisation = ymd 2020 1 1;
+      nontarget = false;
+      baseline = record { assessed = assessed; count = 2; nodes = printedOpened .baseline .nodes; sum = 60 };
+      earlier = record { nadir = 60 };
+      latest = day 1;
+      therapy = false;
+      death = M.Absent;
+      event = events M.Absent 1 M.Absent;
+      counted = counts M.Absent M.Absent false false false false;
+    }
+
 -- 2020-03-25, which is day 85: (24, 12), NN
 abbrev pub visit85 : Record
 visit85 = visitDated (ymd 2020 3 25) S.NN false (true ∷ true ∷ []) (24 ∷ 12 ∷ [])
@@ -94,6 +112,7 @@ pub record FirstRefusals : Type 0 where
   -- 10 before 11
   pub misfitOnLatest : refusal printedVisited (visitDated (ymd 2020 2 12) S.NA false [] []) ≡ 10
   pub statusNA : refusal printedOpened (visitDated (ymd 2020 2 12) S.NA false [] []) ≡ 11
+  pub statusWithoutLesions : refusal (opened true) visited ≡ 11
   pub beyondCount : refusal printedOpened (visitDated (ymd 2020 2 12) S.NN false (false ∷ false ∷ true ∷ []) []) ≡ 11
 
 pub record AddedAtTheEdges : Type 0 where
@@ -115,6 +134,9 @@ pub record LinesAtTheEdges : Type 0 where
   pub death : lines printedVisited (deathDated (ymd 2020 2 19)) ≡ []
   -- behind a progression too: V 85 PR NN PR -40.0
   pub afterProgression : lines progressed visit85 ≡ record { day = 85; target = PR; nontarget = NN; overall = PR; change = signed true 400 } ∷ []
+  -- baseline missing: NE, new lesion or not
+  pub missing : lines (opened false) (visitDated (ymd 2020 2 12) S.NA true (true ∷ true ∷ []) (24 ∷ 12 ∷ []))
+      ≡ record { day = 43; target = PR; nontarget = NA; overall = NE; change = signed true 400 } ∷ []
   -- a new lesion gives PD: V 85 PR NE PD -40.0
   pub newLesion : lines printedVisited (visitDated (ymd 2020 3 25) S.NE true (true ∷ true ∷ []) (24 ∷ 12 ∷ []))
       ≡ record { day = 85; target = PR; nontarget = NE; overall = PD; change = signed true 400 } ∷ []

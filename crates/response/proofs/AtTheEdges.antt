@@ -7,4 +7,4 @@ use Rattle.response.specs.Examples.{MeasuredVisits}
 
 pub measured-visits : MeasuredVisits
 unfolding measuredSum baselineSum allMeasured allGone grown shrunk
-measured-visits = record { neitherGone = refl; bothGone = refl; nodeUnmeasured = refl; partial = refl; unmeasured = refl }
+measured-visits = record { neitherGone = refl; bothGone = refl; nodeUnmeasured = refl; otherLeft = refl; complete = refl; partial = refl; unmeasured = refl }

@@ -4,4 +4,4 @@ pub mod ReadBack
 pub mod WrittenBack
 pub mod RoundTrip
 pub mod WriteReturns
-pub mod Written
+pub mod WorkedExamples

@@ -1,5 +1,5 @@
 -- Document 01, "Where a call stops", writing: 6 comes behind 3 to 5, and their numbers, proved in proofs/AtTheEdges.antt; and the output at exit, proved in
--- proofs/Written.antt.
+-- proofs/WorkedExamples.antt.
 -- Assumes nothing.
 use mathlib.Core.Path.{_≡_}
 use mathlib.Core.List.{List, [], _∷_, _++_, map}

@@ -6,7 +6,7 @@ use borrow.Author.Needs.{needs}
 use native.Mathlib.Omega.{arith}
 use lib.ListN.{length}
 use Rattle.parts.proofs.Cut.{fair-length}
-use Rattle.file.proofs.Loop.{bad, first-refused, Standing, first-standing, turn-refused, turn, ended}
+use Rattle.file.proofs.Turns.{bad, first-refused, Standing, first-standing, turn-refused, turn, ended}
 use Rattle.file.proofs.judge_file.Statement.{statement}
 use Rattle.file.proofs.judge_file.Tie as tie
 

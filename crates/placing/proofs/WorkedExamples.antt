@@ -1,4 +1,5 @@
--- The examples are computed by the definitions. By its name this file is checked first, so that a wrong definition is refused at an example.
+-- The examples are computed by the definitions. By its name this file is checked behind the theorems on the list of the records, so that a subject that
+-- does not follow the list is refused there.
 -- Assumes nothing.
 use mathlib.Core.Path.{refl}
 use Rattle.dates.specs.Calendar.{leapYear, daysInMonth, dateExists, daysOfYears, daysOfMonths, dayNumber}
@@ -15,7 +16,7 @@ use Rattle.placing.specs.Refusals.{refusalOn}
 use Rattle.placing.specs.Examples.{NumbersOfCases, FirstRefusals, AddedAtTheEdges, LinesAtTheEdges}
 
 pub numbers-of-cases : NumbersOfCases
-numbers-of-cases = record { additions = refl; noVisit = refl; visit = refl }
+numbers-of-cases = record { additions = refl; judgedVisit = refl; noVisit = refl; visit = refl }
 
 pub first-refusals : FirstRefusals
 unfolding leapYear daysInMonth dateExists daysOfYears daysOfMonths dayNumber studyDayOf measuredBeyond fitsBy refusalOn
@@ -32,6 +33,7 @@ first-refusals =
       beforeRandomisation = refl;
       misfitOnLatest = refl;
       statusNA = refl;
+      statusWithoutLesions = refl;
       beyondCount = refl;
     }
 
@@ -49,4 +51,4 @@ added-at-the-edges =
 
 pub lines-at-the-edges : LinesAtTheEdges
 unfolding leapYear daysInMonth dateExists daysOfYears daysOfMonths dayNumber studyDayOf measuredSum allMeasured allGone grown shrunk targetAnswer overallAnswer changeBetween changeOf answerOn
-lines-at-the-edges = record { visit = refl; therapy = refl; death = refl; afterProgression = refl; newLesion = refl }
+lines-at-the-edges = record { visit = refl; therapy = refl; death = refl; afterProgression = refl; missing = refl; newLesion = refl }

@@ -1,4 +1,5 @@
--- The examples are computed by the definitions. By its name this file is checked first, so that a wrong definition is refused at an example.
+-- The examples are computed by the definitions. By its name this file is checked behind the theorems on the list of the records, so that a subject that
+-- does not follow the list is refused there.
 -- Assumes nothing.
 use mathlib.Core.Path.{refl}
 use Rattle.dates.specs.Calendar.{leapYear, daysInMonth, dateExists}
@@ -11,4 +12,4 @@ use Rattle.opening.specs.Examples.{OpenedAtTheEdges}
 
 pub opened-at-the-edges : OpenedAtTheEdges
 unfolding leapYear daysInMonth dateExists wrongSize largeMeasured setBeyond sizedUnmeasured withoutDisease outsideLimits notZero refusalOfRead baselineSum nadirOf refusalOfOpening firstSubject blank openedSubject
-opened-at-the-edges = record { numbers = refl; printed = refl; noDate = refl; visit = refl; therapy = refl; death = refl }
+opened-at-the-edges = record { numbers = refl; printed = refl; withoutNontarget = refl; noDate = refl; visit = refl; therapy = refl; death = refl }

@@ -1,4 +1,5 @@
--- A turn of the loop over a file's records as a step of the recursion over its parts.
+-- A turn of the loop over a file's records as a step of the recursion over its parts. By its name this file is checked behind the theorem that ties a file
+-- to the additions, so that a file judged otherwise is refused there.
 -- Assumes nothing.
 use mathlib.Core.Path.{_≡_, sym, _∙_, ap}
 use mathlib.Core.Bool.{true, false}

@@ -1,4 +1,5 @@
--- The examples are computed by the definitions. By its name this file is checked first, so that a wrong definition is refused at an example.
+-- The examples are computed by the definitions. By its name this file is checked behind the theorems on the list of the records, so that a subject that
+-- does not follow the list is refused there.
 -- Assumes nothing.
 use mathlib.Core.Path.{refl}
 use Rattle.dates.specs.Calendar.{leapYear, daysInMonth, dateExists}
@@ -28,7 +29,7 @@ range-at-the-edges =
 
 pub events-after : EventsAfter
 unfolding eventAfter
-events-after = record { sd43 = refl; ne85 = refl; pd127 = refl; sd169 = refl }
+events-after = record { sd43 = refl; ne85 = refl; pd127 = refl; sd169 = refl; pd169 = refl }
 
 pub counts-after : CountsAfter
 unfolding countedAfter
@@ -46,5 +47,8 @@ counts-after =
       sd71 = refl;
       pd71 = refl;
       crAfterPR = refl;
-      shown = refl;
+      neAfterPR = refl;
+      neAfterPRAndCR = refl;
+      neAfterTwoCR = refl;
+      neAfterPD = refl;
     }

@@ -1,0 +1,65 @@
+-- The examples are computed by the definitions. By its name this file is checked behind the theorems on the list of the records, so that a subject that
+-- does not follow the list is refused there.
+-- Assumes nothing.
+use mathlib.Core.Path.{refl}
+use Rattle.dates.specs.Calendar.{leapYear, daysInMonth, dateExists, daysOfYears, daysOfMonths, dayNumber}
+use Rattle.dates.specs.Answers.{studyDayOf}
+use Rattle.records.specs.Refusals.{wrongSize, largeMeasured, setBeyond, sizedUnmeasured, withoutDisease, outsideLimits, notZero, refusalOfRead}
+use Rattle.criteria.specs.Sums.{measuredSum, baselineSum, allMeasured}
+use Rattle.criteria.specs.Targets.{allGone, grown, shrunk, targetAnswer}
+use Rattle.criteria.specs.Nadir.{nadirOf, afterVisit}
+use Rattle.criteria.specs.Overall.{overallAnswer}
+use Rattle.endpoints.specs.Lawful.{measuredBeyond, fitsBy, fits}
+use Rattle.endpoints.specs.Visits.{judge}
+use Rattle.endpoints.specs.Pfs.{gapLimit, earlyDeath, pfs}
+use Rattle.endpoints.specs.Best.{best, duration}
+use Rattle.endpoints.specs.Settled.{settledFrom, pfsSettledBy, bestSettledBy, durationSettledBy, pfsSettled, bestSettled, durationSettled}
+use Rattle.endpoints.specs.Adding.{refusalBehind, refusalOfAdding}
+use Rattle.held.specs.Range.{inRange}
+use Rattle.held.specs.Visits.{eventAfter, countedAfter}
+use Rattle.opening.specs.Opening.{blank}
+use Rattle.placing.specs.Added.{answerOn, visitAdded}
+use Rattle.placing.specs.Refusals.{refusalOn}
+use Rattle.outcome.specs.Promises.{refusalHeld, nextSubject, outcomeOf, readingOf}
+use Rattle.outcome.specs.Examples.{FirstRefusals, ReadAtTheEdges, RepliesAtTheEdges, ValuesOfCases}
+
+pub first-refusals : FirstRefusals
+unfolding leapYear daysInMonth dateExists daysOfYears daysOfMonths dayNumber studyDayOf wrongSize largeMeasured setBeyond sizedUnmeasured withoutDisease outsideLimits notZero refusalOfRead measuredSum allMeasured allGone grown shrunk targetAnswer afterVisit overallAnswer measuredBeyond fitsBy inRange eventAfter countedAfter blank answerOn visitAdded refusalOn refusalHeld nextSubject readingOf
+first-refusals =
+    record {
+      outOfRange = refl;
+      withoutDate = refl;
+      sizeUnmeasured = refl;
+      secondBaseline = refl;
+      fitting = refl;
+      keptEarly = refl;
+      keptUnmeasured = refl;
+      keptOutOfRange = refl;
+      next = refl;
+      readOutOfRange = refl;
+    }
+
+pub read-at-the-edges : ReadAtTheEdges
+unfolding leapYear daysInMonth dateExists gapLimit earlyDeath settledFrom pfsSettledBy bestSettledBy durationSettledBy inRange outcomeOf readingOf
+read-at-the-edges =
+    record {
+      opened = refl;
+      afterTherapy = refl;
+      afterDeath = refl;
+      responded = refl;
+      late = refl;
+      complete = refl;
+      progressed = refl;
+      printed = refl;
+      missingDeath = refl;
+      missing92 = refl;
+      missing93 = refl;
+      lateDeath = refl;
+    }
+
+pub replies-at-the-edges : RepliesAtTheEdges
+unfolding leapYear daysInMonth dateExists daysOfYears daysOfMonths dayNumber studyDayOf wrongSize largeMeasured setBeyond sizedUnmeasured withoutDisease outsideLimits notZero refusalOfRead measuredSum baselineSum allMeasured allGone grown shrunk targetAnswer nadirOf overallAnswer measuredBeyond fitsBy fits judge gapLimit earlyDeath pfs best duration settledFrom pfsSettledBy bestSettledBy durationSettledBy pfsSettled bestSettled durationSettled refusalBehind refusalOfAdding
+replies-at-the-edges = record { replied = refl }
+
+pub values-of-cases : ValuesOfCases
+values-of-cases = record { outOfRange = refl; pfsSettled = refl; bestSettled = refl; durationSettled = refl }
