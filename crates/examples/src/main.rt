@@ -153,6 +153,45 @@ fn changes() {
     );
 }
 
+// Responses before a complete one, and visits after a therapy and after a progression.
+fn later_visits() {
+    // One target of 100; visits on days 43 (60), 85 (0) and 127 (0).
+    history::shown(
+        b"a partial response before a confirmed complete one\n",
+        b"\x2F\xC8\x21\x88\x64\x00\x00\x00\x00\x00\x00\x4F\xC8\x4C\x08\x78\x00\x00\x00\x00\x00\x00\x4F\xC8\x79\x08\x00\x00\x00\x00\x00\x00\x00\x4F\xC8\xA6\x08\x00\x00\x00\x00\x00\x00\x00",
+    );
+    // One target of 100; visits on days 43 (90), 141 (90) and 200 (200), therapy on day 50. From day 43 two visits would be missed.
+    history::shown(
+        b"a visit after a therapy before the progression\n",
+        b"\x2F\xC8\x21\x88\x64\x00\x00\x00\x00\x00\x00\x4F\xC8\x4C\x08\xB4\x00\x00\x00\x00\x00\x00\x6F\xC8\x53\x00\x00\x00\x00\x00\x00\x00\x00\x4F\xC8\xB4\x08\xB4\x00\x00\x00\x00\x00\x00\x4F\xC8\xF2\x09\x90\x00\x00\x00\x00\x00\x00",
+    );
+    // One target of 100; visits on days 43 (90), 85 (90) and 300 (200), therapy on day 50.
+    history::shown(
+        b"censored at a visit after a therapy\n",
+        b"\x2F\xC8\x21\x88\x64\x00\x00\x00\x00\x00\x00\x4F\xC8\x4C\x08\xB4\x00\x00\x00\x00\x00\x00\x6F\xC8\x53\x00\x00\x00\x00\x00\x00\x00\x00\x4F\xC8\x79\x08\xB4\x00\x00\x00\x00\x00\x00\x4F\xC9\x5A\x09\x90\x00\x00\x00\x00\x00\x00",
+    );
+    // One target of 100; visits on days 43 (90), 85 (200), 127 (50) and 169 (60), which is a fifth more than the nadir of day 127.
+    history::shown(
+        b"visits after a progression\n",
+        b"\x2F\xC8\x21\x88\x64\x00\x00\x00\x00\x00\x00\x4F\xC8\x4C\x08\xB4\x00\x00\x00\x00\x00\x00\x4F\xC8\x79\x09\x90\x00\x00\x00\x00\x00\x00\x4F\xC8\xA6\x08\x64\x00\x00\x00\x00\x00\x00\x4F\xC8\xD1\x08\x78\x00\x00\x00\x00\x00\x00",
+    );
+}
+
+// Targets told apart by their marks and sizes.
+fn several_targets() {
+    // Targets 21, 32, 43, 54 and 65, of which the first, third and fifth are nodes, and non-target disease; visits on days 43 (11, 22, not measured, 44, 50), 85 (15, 22,
+    // 30, 37, 46), 127 (9, 0, 9, 0, 9) and 169 (9, 6, 9, 0, 9), all NN.
+    history::shown(
+        b"five targets, nodes and others in turn\n",
+        b"\x2F\xC8\x21\xEC\x15\x04\x10\xAC\x1B\x44\x10\x4F\xC8\x4C\x48\x17\x05\x80\x04\x2C\x86\x40\x4F\xC8\x79\x48\x1F\x05\xA0\xF4\x25\x85\xC0\x4F\xC8\xA6\x48\x13\x00\x20\x4C\x00\x81\x20\x4F\xC8\xD1\x48\x13\x01\xA0\x4C\x00\x81\x20",
+    );
+    // Targets 30, node 20 and 40; a visit on day 43 (20, 9, 30).
+    history::shown(
+        b"three targets\n",
+        b"\x2F\xC8\x21\x98\x1E\x82\x80\xA0\x00\x00\x00\x4F\xC8\x4C\x08\x29\x02\x60\xF0\x00\x00\x00",
+    );
+}
+
 // In each history the records stand in the order recorded, and randomisation is on 2020-01-01.
 fn main() {
     held_subjects();
@@ -160,4 +199,6 @@ fn main() {
     nontarget_disease();
     endings();
     changes();
+    later_visits();
+    several_targets();
 }
