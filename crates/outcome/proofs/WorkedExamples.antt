@@ -51,6 +51,7 @@ read-at-the-edges =
       complete = refl;
       progressed = refl;
       printed = refl;
+      missingAlone = refl;
       missingDeath = refl;
       missing92 = refl;
       missing93 = refl;

@@ -85,7 +85,9 @@ pub record ReadAtTheEdges : Type 0 where
   pub printed : readingOf
       (heldWith true 130 false (onDay 130) (events (onDay 127) 85 (onDay 85)) (counts (onDay 43) M.Absent false true true true))
       ≡ reads (event 127) PR (forDays EVENT 85) true true true
-  -- baseline missing: a visit of day 43 and death 50; a therapy of day 92, and one of day 93
+  -- baseline missing: alone; a visit of day 43 and death 50; a therapy of day 92, and one of day 93
+  pub missingAlone : readingOf (heldWith false 1 false M.Absent (events M.Absent 1 M.Absent) (counts M.Absent M.Absent false false false false))
+      ≡ reads (censored 1) NE noDuration false true true
   pub missingDeath : readingOf
       (heldWith false 50 false (onDay 50) (events M.Absent 43 M.Absent) (counts M.Absent M.Absent false false false false))
       ≡ reads (event 50) NE noDuration true true true

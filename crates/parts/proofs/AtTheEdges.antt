@@ -19,4 +19,4 @@ lengths-at-the-edges =
     }
 
 pub cut-at-the-edges : CutAtTheEdges
-cut-at-the-edges = record { twoRecords = refl; joinedInOrder = refl }
+cut-at-the-edges = record { twoRecords = refl; tenBytesMore = refl; joinedInOrder = refl }
