@@ -47,7 +47,7 @@ unfolding leapYear daysInMonth dateExists daysOfYears daysOfMonths dayNumber stu
 taking-at-the-edges = record { fitting = refl; kind0 = refl; sameDay = refl }
 
 pub first-of-calls : FirstOfCalls
-first-of-calls = record { readFirst = refl; thenAdded = refl; atSecond = refl; none = refl }
+first-of-calls = record { readFirst = refl; thenAdded = refl; atIndex2 = refl; none = refl }
 
 pub values-of-cases : ValuesOfCases
 values-of-cases = record { refusal = refl; outcome = refl }

@@ -99,7 +99,7 @@ reading a = record { answer = a; found = blank }
 pub record FirstOfCalls : Type 0 where
   pub readFirst : numberOf (reading R.NoSuchDate) 10 ≡ 3
   pub thenAdded : numberOf (reading R.Done) 10 ≡ 10
-  pub atSecond : firstRefusal 0 (0 ∷ 0 ∷ 10 ∷ 9 ∷ []) ≡ at 10 2
+  pub atIndex2 : firstRefusal 0 (0 ∷ 0 ∷ 10 ∷ 9 ∷ []) ≡ at 10 2
   pub none : firstRefusal 0 (0 ∷ 0 ∷ []) ≡ never
 
 -- the values of the declared cases

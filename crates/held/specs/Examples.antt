@@ -10,6 +10,7 @@ use Rattle.dates.specs.declared.StudyDay.{StudyDay}
 use Rattle.dates.specs.Laws.{ymd}
 use Rattle.records.specs.Examples.{fivePlaces}
 use Rattle.criteria.specs.Words.{CR, PR, SD, PD, NE}
+use Rattle.criteria.specs.declared.BaselineDisease.{BaselineDisease}
 use Rattle.endpoints.specs.declared.MaybeDay.{MaybeDay}
 use Rattle.endpoints.specs.declared.MaybeDay.the-variants as M
 use Rattle.held.specs.Range.{inRange}
@@ -32,63 +33,74 @@ events progression previous evaluable = record { progression = progression; prev
 abbrev pub counts : MaybeDay → MaybeDay → Bool → Bool → Bool → Bool → CountingVisits
 counts first start cr pr sd pd = record { first = first; start = start; cr = cr; pr = pr; sd = sd; pd = pd }
 
--- by randomisation date, target count, baseline sum, nadir, latest day, death, and what visits left
-abbrev pub subjectWith : Date → ℕ → ℕ → ℕ → ℕ → MaybeDay → EventDays → CountingVisits → Subject
-subjectWith randomisation count sum nadir latest death event counted =
-    record {
-      randomisation = randomisation;
-      nontarget = true;
-      baseline = record { assessed = true; count = count; nodes = fivePlaces false (false ∷ true ∷ []); sum = sum };
-      earlier = record { nadir = nadir };
-      latest = day latest;
-      therapy = false;
-      death = death;
-      event = event;
-      counted = counted;
-    }
-
--- after the baseline of the printed example, and after its visit of day 43 with a sum of 36
-abbrev pub printedOpened : Subject
-printedOpened =
-    subjectWith (ymd 2020 1 1) 2 60 60 1 M.Absent (events M.Absent 1 M.Absent) (counts M.Absent M.Absent false false false false)
-
-abbrev pub printedVisited : Subject
-printedVisited =
-    subjectWith (ymd 2020 1 1) 2 60 36 43 M.Absent (events M.Absent 43 (onDay 43)) (counts (onDay 43) M.Absent false false true false)
-
--- the baseline of the printed example with other days
-abbrev pub onDays : ℕ → MaybeDay → EventDays → CountingVisits → Subject
-onDays = subjectWith (ymd 2020 1 1) 2 60 60
-
+-- no visit yet
 abbrev pub noEvents : EventDays
 noEvents = events M.Absent 1 M.Absent
 
 abbrev pub noCounts : CountingVisits
 noCounts = counts M.Absent M.Absent false false false false
 
+-- what a baseline leaves, by assessed, target count and sum; the second target is a node
+abbrev pub disease : Bool → ℕ → ℕ → BaselineDisease
+disease assessed count sum = record { assessed = assessed; count = count; nodes = fivePlaces false (false ∷ true ∷ []); sum = sum }
+
+-- by randomisation date, non-target disease, what the baseline leaves, nadir, latest day, therapy, death, and what visits left
+abbrev pub subjectWith : Date → Bool → BaselineDisease → ℕ → ℕ → Bool → MaybeDay → EventDays → CountingVisits → Subject
+subjectWith randomisation nontarget baseline nadir latest therapy death event counted =
+    record {
+      randomisation = randomisation;
+      nontarget = nontarget;
+      baseline = baseline;
+      earlier = record { nadir = nadir };
+      latest = day latest;
+      therapy = therapy;
+      death = death;
+      event = event;
+      counted = counted;
+    }
+
+-- the subject of the printed example, by nadir, latest day, therapy, death, and what visits left
+abbrev pub printedWith : ℕ → ℕ → Bool → MaybeDay → EventDays → CountingVisits → Subject
+printedWith = subjectWith (ymd 2020 1 1) true (disease true 2 60)
+
+-- after its baseline, and after its visit of day 43 with a sum of 36
+abbrev pub printedOpened : Subject
+printedOpened = printedWith 60 1 false M.Absent noEvents noCounts
+
+abbrev pub printedVisited : Subject
+printedVisited = printedWith 36 43 false M.Absent (events M.Absent 43 (onDay 43)) (counts (onDay 43) M.Absent false false true false)
+
+-- after a baseline, by randomisation date, target count, sum and nadir
+abbrev pub afterBaseline : Date → ℕ → ℕ → ℕ → Subject
+afterBaseline date count sum nadir = subjectWith date true (disease true count sum) nadir 1 false M.Absent noEvents noCounts
+
 -- a day 0 or over 40,177, a sum over 2,500, a target count over 5 or a randomisation date that 3 would meet; an absent day has its own mark
 pub record RangeAtTheEdges : Type 0 where
   pub opened : inRange printedOpened ≡ true
   pub most : inRange
-      (subjectWith (ymd 2020 1 1) 5 2500 2500 40177 (onDay 40177) (events (onDay 40177) 40177 (onDay 40177))
+      (subjectWith (ymd 2020 1 1) true (disease true 5 2500) 2500 40177 false (onDay 40177) (events (onDay 40177) 40177 (onDay 40177))
       (counts (onDay 40177) (onDay 40177) true true true true))
       ≡ true
   pub least : inRange
-      (subjectWith (ymd 2020 1 1) 0 0 0 1 (onDay 1) (events (onDay 1) 1 (onDay 1)) (counts (onDay 1) (onDay 1) false false false false))
+      (subjectWith (ymd 2020 1 1) true (disease true 0 0) 0 1 false (onDay 1) (events (onDay 1) 1 (onDay 1))
+      (counts (onDay 1) (onDay 1) false false false false))
       ≡ true
-  pub noDate : inRange (subjectWith (ymd 2021 2 29) 2 60 60 1 M.Absent noEvents noCounts) ≡ false
-  pub count6 : inRange (subjectWith (ymd 2020 1 1) 6 60 60 1 M.Absent noEvents noCounts) ≡ false
-  pub sum2501 : inRange (subjectWith (ymd 2020 1 1) 2 2501 60 1 M.Absent noEvents noCounts) ≡ false
-  pub nadir2501 : inRange (subjectWith (ymd 2020 1 1) 2 60 2501 1 M.Absent noEvents noCounts) ≡ false
+  pub noDate : inRange (afterBaseline (ymd 2021 2 29) 2 60 60) ≡ false
+  pub count6 : inRange (afterBaseline (ymd 2020 1 1) 6 60 60) ≡ false
+  pub sum2501 : inRange (afterBaseline (ymd 2020 1 1) 2 2501 60) ≡ false
+  pub nadir2501 : inRange (afterBaseline (ymd 2020 1 1) 2 60 2501) ≡ false
   -- the latest day, death, progression, v, the last evaluable visit, the first response and the start of the last run of CR: 0 and 40,178
-  pub latest : map (λ (d : ℕ). inRange (onDays d M.Absent noEvents noCounts)) (0 ∷ 40178 ∷ []) ≡ false ∷ false ∷ []
-  pub death : map (λ (d : ℕ). inRange (onDays 1 (onDay d) noEvents noCounts)) (0 ∷ 40178 ∷ []) ≡ false ∷ false ∷ []
-  pub progression : map (λ (d : ℕ). inRange (onDays 1 M.Absent (events (onDay d) 1 M.Absent) noCounts)) (0 ∷ 40178 ∷ []) ≡ false ∷ false ∷ []
-  pub previous : map (λ (d : ℕ). inRange (onDays 1 M.Absent (events M.Absent d M.Absent) noCounts)) (0 ∷ 40178 ∷ []) ≡ false ∷ false ∷ []
-  pub evaluable : map (λ (d : ℕ). inRange (onDays 1 M.Absent (events M.Absent 1 (onDay d)) noCounts)) (0 ∷ 40178 ∷ []) ≡ false ∷ false ∷ []
-  pub first : map (λ (d : ℕ). inRange (onDays 1 M.Absent noEvents (counts (onDay d) M.Absent false false false false))) (0 ∷ 40178 ∷ [])
+  pub latest : map (λ (d : ℕ). inRange (printedWith 60 d false M.Absent noEvents noCounts)) (0 ∷ 40178 ∷ []) ≡ false ∷ false ∷ []
+  pub death : map (λ (d : ℕ). inRange (printedWith 60 1 false (onDay d) noEvents noCounts)) (0 ∷ 40178 ∷ []) ≡ false ∷ false ∷ []
+  pub progression : map (λ (d : ℕ). inRange (printedWith 60 1 false M.Absent (events (onDay d) 1 M.Absent) noCounts)) (0 ∷ 40178 ∷ [])
       ≡ false ∷ false ∷ []
-  pub start : map (λ (d : ℕ). inRange (onDays 1 M.Absent noEvents (counts M.Absent (onDay d) false false false false))) (0 ∷ 40178 ∷ [])
+  pub previous : map (λ (d : ℕ). inRange (printedWith 60 1 false M.Absent (events M.Absent d M.Absent) noCounts)) (0 ∷ 40178 ∷ [])
+      ≡ false ∷ false ∷ []
+  pub evaluable : map (λ (d : ℕ). inRange (printedWith 60 1 false M.Absent (events M.Absent 1 (onDay d)) noCounts)) (0 ∷ 40178 ∷ [])
+      ≡ false ∷ false ∷ []
+  pub first : map (λ (d : ℕ). inRange (printedWith 60 1 false M.Absent noEvents (counts (onDay d) M.Absent false false false false))) (0 ∷ 40178 ∷ [])
+      ≡ false ∷ false ∷ []
+  pub start : map (λ (d : ℕ). inRange (printedWith 60 1 false M.Absent noEvents (counts M.Absent (onDay d) false false false false))) (0 ∷ 40178 ∷ [])
       ≡ false ∷ false ∷ []
 
 -- SD 43, NE 85, PD 127, SD 169 or PD 169: v moves with each visit before the progression, which is the first PD, the last evaluable visit with SD

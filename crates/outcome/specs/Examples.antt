@@ -20,7 +20,7 @@ use Rattle.endpoints.specs.AddingExamples.{printedBaseline, visited}
 use Rattle.held.specs.declared.EventDays.{EventDays}
 use Rattle.held.specs.declared.CountingVisits.{CountingVisits}
 use Rattle.held.specs.declared.Subject.{Subject}
-use Rattle.held.specs.Examples.{day, onDay, events, counts, printedOpened, printedVisited}
+use Rattle.held.specs.Examples.{day, onDay, events, counts, noEvents, noCounts, disease, subjectWith, printedOpened, printedVisited}
 use Rattle.opening.specs.Opening.{blank}
 use Rattle.placing.specs.Examples.{treated, died}
 use Rattle.outcome.specs.Promises.{refusalHeld, nextSubject, Reading, refused, outcome, readingValues, readingOf}
@@ -43,20 +43,9 @@ pub record FirstRefusals : Type 0 where
   -- reading meets 12 only
   pub readOutOfRange : readingOf blank ≡ refused 12
 
--- the subject of the printed example with other days, and with a missing baseline
+-- a baseline with non-target disease alone, or a missing one, by latest day, therapy, death, and what visits left
 abbrev pub heldWith : Bool → ℕ → Bool → MaybeDay → EventDays → CountingVisits → Subject
-heldWith assessed latest therapy death event counted =
-    record {
-      randomisation = ymd 2020 1 1;
-      nontarget = assessed;
-      baseline = record { assessed = assessed; count = 0; nodes = printedOpened .baseline .nodes; sum = 0 };
-      earlier = record { nadir = 0 };
-      latest = day latest;
-      therapy = therapy;
-      death = death;
-      event = event;
-      counted = counted;
-    }
+heldWith assessed = subjectWith (ymd 2020 1 1) assessed (disease assessed 0 0) 0
 
 -- PFS, best response, duration, and the marks of the three
 abbrev pub reads : Pfs → Word → Duration → Bool → Bool → Bool → Reading
@@ -81,22 +70,21 @@ pub record ReadAtTheEdges : Type 0 where
   -- PD 30: best is PD
   pub progressed : readingOf (heldWith true 30 false M.Absent (events (onDay 30) 1 M.Absent) (counts M.Absent M.Absent false false false true))
       ≡ reads (event 30) PD noDuration true true true
-  -- the printed example, P EVENT 127, B PR, D EVENT 85, S 1 1 1, and a death of day 130 behind it
+  -- PR 43, PR 85, PD 127 as in the printed example, P EVENT 127, B PR, D EVENT 85, S 1 1 1, and a death of day 130 behind them
   pub printed : readingOf
       (heldWith true 130 false (onDay 130) (events (onDay 127) 85 (onDay 85)) (counts (onDay 43) M.Absent false true true true))
       ≡ reads (event 127) PR (forDays EVENT 85) true true true
   -- baseline missing: alone; a visit of day 43 and death 50; a therapy of day 92, and one of day 93
-  pub missingAlone : readingOf (heldWith false 1 false M.Absent (events M.Absent 1 M.Absent) (counts M.Absent M.Absent false false false false))
+  pub missingAlone : readingOf (heldWith false 1 false M.Absent noEvents noCounts)
       ≡ reads (censored 1) NE noDuration false true true
-  pub missingDeath : readingOf
-      (heldWith false 50 false (onDay 50) (events M.Absent 43 M.Absent) (counts M.Absent M.Absent false false false false))
+  pub missingDeath : readingOf (heldWith false 50 false (onDay 50) (events M.Absent 43 M.Absent) noCounts)
       ≡ reads (event 50) NE noDuration true true true
-  pub missing92 : readingOf (heldWith false 92 true M.Absent (events M.Absent 1 M.Absent) (counts M.Absent M.Absent false false false false))
+  pub missing92 : readingOf (heldWith false 92 true M.Absent noEvents noCounts)
       ≡ reads (censored 1) NE noDuration false true true
-  pub missing93 : readingOf (heldWith false 93 true M.Absent (events M.Absent 1 M.Absent) (counts M.Absent M.Absent false false false false))
+  pub missing93 : readingOf (heldWith false 93 true M.Absent noEvents noCounts)
       ≡ reads (censored 1) NE noDuration true true true
   -- NE 43 and death 120, after the early-death limit
-  pub lateDeath : readingOf (heldWith true 120 false (onDay 120) (events M.Absent 43 M.Absent) (counts M.Absent M.Absent false false false false))
+  pub lateDeath : readingOf (heldWith true 120 false (onDay 120) (events M.Absent 43 M.Absent) noCounts)
       ≡ reads (censored 1) NE noDuration true true true
 
 -- the replies of a list of calls on the printed baseline: the visit of day 43 added, read, added again (10), and a therapy on its day

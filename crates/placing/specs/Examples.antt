@@ -2,7 +2,7 @@
 -- subject and the line after one record more. Proved in proofs/WorkedExamples.antt.
 -- Assumes nothing.
 use mathlib.Core.Path.{_≡_}
-use mathlib.Core.Bool.{Bool, true, false}
+use mathlib.Core.Bool.{true, false}
 use mathlib.Core.List.{List, [], _∷_, map}
 use Prim.Native.Nat.{ℕ}
 use Rattle.dates.specs.Laws.{ymd}
@@ -10,18 +10,16 @@ use Rattle.records.specs.Examples.{visitDated, therapyDated, deathDated}
 use Rattle.records.specs.declared.Record.{Record}
 use Rattle.records.specs.declared.Status.the-variants as S
 use Rattle.criteria.specs.Words.{CR, PR, PD, NE, NA, NN}
-use Rattle.criteria.specs.Change.{signed}
+use Rattle.criteria.specs.Change.{none, signed}
 use Rattle.criteria.specs.declared.Target.the-variants as T
 use Rattle.criteria.specs.declared.Overall.the-variants as O
 use Rattle.criteria.specs.declared.ChangeAnswer.the-variants as C
-use Rattle.endpoints.specs.declared.MaybeDay.{MaybeDay}
 use Rattle.endpoints.specs.declared.MaybeDay.the-variants as M
 use Rattle.endpoints.specs.Lines.{VisitLine}
 use Rattle.endpoints.specs.AddingExamples.{printedBaseline, visited}
 use Rattle.held.specs.declared.Subject.{Subject}
-use Rattle.held.specs.declared.EventDays.{EventDays}
 use Rattle.held.specs.declared.CountingVisits.{CountingVisits}
-use Rattle.held.specs.Examples.{day, onDay, events, counts, printedOpened, printedVisited}
+use Rattle.held.specs.Examples.{day, onDay, events, counts, noEvents, noCounts, disease, subjectWith, printedWith, printedOpened, printedVisited}
 use Rattle.placing.specs.Added.{dayOn, entryAdded}
 use Rattle.placing.specs.Lines.{lineJudged, visitValues, linesOn}
 use Rattle.placing.specs.Refusals.{addNumber, refusalOn}
@@ -42,47 +40,25 @@ pub record NumbersOfCases : Type 0 where
       (J.Judged (record { day = day 85; target = T.CR; nontarget = S.NN; overall = O.PR; change = C.Decrease 850 }))
       ≡ record { day = 85; target = CR; nontarget = NN; overall = PR; change = signed true 850 } ∷ []
 
--- after the printed baseline and its visit of day 43, with or without a therapy of day 50, a progression of day 43, a death of day 50
-abbrev pub behind : ℕ → Bool → MaybeDay → EventDays → CountingVisits → Subject
-behind latest therapy death event counted =
-    record {
-      randomisation = ymd 2020 1 1;
-      nontarget = true;
-      baseline = printedOpened .baseline;
-      earlier = record { nadir = 36 };
-      latest = day latest;
-      therapy = therapy;
-      death = death;
-      event = event;
-      counted = counted;
-    }
-
+-- after the printed baseline and its visit of day 43: a therapy of day 50; a death of day 50; and with a progression of day 43
 abbrev pub response43 : CountingVisits
 response43 = counts (onDay 43) M.Absent false false true false
 
 abbrev pub treated : Subject
-treated = behind 50 true M.Absent (events M.Absent 43 (onDay 43)) response43
+treated = printedWith 36 50 true M.Absent (events M.Absent 43 (onDay 43)) response43
 
 abbrev pub died : Subject
-died = behind 50 false (onDay 50) (events M.Absent 43 (onDay 43)) response43
+died = printedWith 36 50 false (onDay 50) (events M.Absent 43 (onDay 43)) response43
 
 abbrev pub progressed : Subject
-progressed = behind 43 false M.Absent (events (onDay 43) 1 M.Absent) (counts M.Absent M.Absent false false false true)
+progressed = printedWith 36 43 false M.Absent (events (onDay 43) 1 M.Absent) (counts M.Absent M.Absent false false false true)
 
--- a baseline without non-target disease, and a missing one
-abbrev pub opened : Bool → Subject
-opened assessed =
-    record {
-      randomisation = ymd 2020 1 1;
-      nontarget = false;
-      baseline = record { assessed = assessed; count = 2; nodes = printedOpened .baseline .nodes; sum = 60 };
-      earlier = record { nadir = 60 };
-      latest = day 1;
-      therapy = false;
-      death = M.Absent;
-      event = events M.Absent 1 M.Absent;
-      counted = counts M.Absent M.Absent false false false false;
-    }
+-- after a baseline without non-target disease, and after a missing one
+abbrev pub withoutNontarget : Subject
+withoutNontarget = subjectWith (ymd 2020 1 1) false (disease true 2 60) 60 1 false M.Absent noEvents noCounts
+
+abbrev pub baselineMissing : Subject
+baselineMissing = subjectWith (ymd 2020 1 1) false (disease false 0 0) 0 1 false M.Absent noEvents noCounts
 
 -- 2020-03-25, which is day 85: (24, 12), NN
 abbrev pub visit85 : Record
@@ -112,7 +88,7 @@ pub record FirstRefusals : Type 0 where
   -- 10 before 11
   pub misfitOnLatest : refusal printedVisited (visitDated (ymd 2020 2 12) S.NA false [] []) ≡ 10
   pub statusNA : refusal printedOpened (visitDated (ymd 2020 2 12) S.NA false [] []) ≡ 11
-  pub statusWithoutLesions : refusal (opened true) visited ≡ 11
+  pub statusWithoutLesions : refusal withoutNontarget visited ≡ 11
   pub beyondCount : refusal printedOpened (visitDated (ymd 2020 2 12) S.NN false (false ∷ false ∷ true ∷ []) []) ≡ 11
 
 pub record AddedAtTheEdges : Type 0 where
@@ -120,12 +96,12 @@ pub record AddedAtTheEdges : Type 0 where
   pub therapy : added printedVisited (therapyDated (ymd 2020 2 19)) ≡ treated
   pub death : added printedVisited (deathDated (ymd 2020 2 19)) ≡ died
   -- after a therapy v and the last evaluable visit move, and no visit counts
-  pub afterTherapy : added treated visit85 ≡ behind 85 true M.Absent (events M.Absent 85 (onDay 85)) response43
+  pub afterTherapy : added treated visit85 ≡ printedWith 36 85 true M.Absent (events M.Absent 85 (onDay 85)) response43
   -- after a progression the latest day alone moves
   pub afterProgression : added progressed visit85
-      ≡ behind 85 false M.Absent (events (onDay 43) 1 M.Absent) (counts M.Absent M.Absent false false false true)
+      ≡ printedWith 36 85 false M.Absent (events (onDay 43) 1 M.Absent) (counts M.Absent M.Absent false false false true)
   -- a therapy stays recorded behind it
-  pub deathAfterTherapy : added treated (deathDated (ymd 2020 2 19)) ≡ behind 50 true (onDay 50) (events M.Absent 43 (onDay 43)) response43
+  pub deathAfterTherapy : added treated (deathDated (ymd 2020 2 19)) ≡ printedWith 36 50 true (onDay 50) (events M.Absent 43 (onDay 43)) response43
 
 pub record LinesAtTheEdges : Type 0 where
   -- V 43 PR NN PR -40.0; therapy and death print no line of their own
@@ -135,8 +111,8 @@ pub record LinesAtTheEdges : Type 0 where
   -- behind a progression too: V 85 PR NN PR -40.0
   pub afterProgression : lines progressed visit85 ≡ record { day = 85; target = PR; nontarget = NN; overall = PR; change = signed true 400 } ∷ []
   -- baseline missing: NE, new lesion or not
-  pub missing : lines (opened false) (visitDated (ymd 2020 2 12) S.NA true (true ∷ true ∷ []) (24 ∷ 12 ∷ []))
-      ≡ record { day = 43; target = PR; nontarget = NA; overall = NE; change = signed true 400 } ∷ []
+  pub missing : lines baselineMissing (visitDated (ymd 2020 2 12) S.NA true [] [])
+      ≡ record { day = 43; target = NA; nontarget = NA; overall = NE; change = none } ∷ []
   -- a new lesion gives PD: V 85 PR NE PD -40.0
   pub newLesion : lines printedVisited (visitDated (ymd 2020 3 25) S.NE true (true ∷ true ∷ []) (24 ∷ 12 ∷ []))
       ≡ record { day = 85; target = PR; nontarget = NE; overall = PD; change = signed true 400 } ∷ []
