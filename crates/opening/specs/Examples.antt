@@ -5,28 +5,19 @@ use mathlib.Core.Path.{_≡_}
 use mathlib.Core.Bool.{true, false}
 use mathlib.Core.List.{[], _∷_, map}
 use Rattle.dates.specs.Laws.{ymd}
-use Rattle.records.specs.Examples.{baselineDated, therapyDated, deathDated}
+use Rattle.records.specs.Examples.{fivePlaces, baselineDated, therapyDated, deathDated}
 use Rattle.endpoints.specs.declared.MaybeDay.the-variants as M
 use Rattle.endpoints.specs.AddingExamples.{printedBaseline, visited}
 use Rattle.held.specs.declared.Subject.{Subject}
-use Rattle.held.specs.Examples.{printedOpened}
+use Rattle.held.specs.Examples.{events, noCounts, subjectWith, printedOpened}
 use Rattle.opening.specs.Opening.{openNumber, openedSubject}
 use Rattle.opening.specs.declared.OpenAnswer.the-variants as O
 
 -- everything zero, every day absent
 abbrev pub zeros : Subject
 zeros =
-    record {
-      randomisation = ymd 0 0 0;
-      nontarget = false;
-      baseline = record { assessed = false; count = 0; nodes = false ∷ false ∷ false ∷ false ∷ false ∷ []; sum = 0 };
-      earlier = record { nadir = 0 };
-      latest = record { 0 = 0 };
-      therapy = false;
-      death = M.Absent;
-      event = record { progression = M.Absent; previous = record { 0 = 0 }; evaluable = M.Absent };
-      counted = record { first = M.Absent; start = M.Absent; cr = false; pr = false; sd = false; pd = false };
-    }
+    subjectWith (ymd 0 0 0) false (record { assessed = false; count = 0; nodes = fivePlaces false []; sum = 0 }) 0 0 false M.Absent
+    (events M.Absent 0 M.Absent) noCounts
 
 pub record OpenedAtTheEdges : Type 0 where
   pub numbers : map openNumber (O.Done ∷ O.NoSuchDate ∷ O.OutsideLimits ∷ O.NotZero ∷ O.NotBaseline ∷ []) ≡ 0 ∷ 3 ∷ 4 ∷ 5 ∷ 7 ∷ []
