@@ -107,5 +107,7 @@ first-refusals =
       statusNA = refl;
       beyondCount = refl;
       fitting = refl;
+      afterTherapy = refl;
+      afterProgression = refl;
       calls = refl;
     }
