@@ -76,7 +76,7 @@ therapyBytes = eleven (0x6F ∷ 0xC8 ∷ 0x54 ∷ [])
 abbrev pub deathBytes : List ℕ
 deathBytes = eleven (0x8F ∷ 0xC8 ∷ 0x54 ∷ [])
 
--- kinds 1 to 4
+-- fields bit-packed, most significant first; kind 1 baseline, 2 visit, 3 therapy, 4 death; status 0 NA, 1 CR, 2 NN, 3 PD, 4 NE
 pub record BytesOfEachKind : Type 0 where
   pub printed : bytesOf printedBaseline ≡ printedBytes
   pub targets : bytesOf fiveTargets ≡ fiveTargetsBytes
@@ -88,6 +88,7 @@ pub record BytesOfEachKind : Type 0 where
   pub therapy : bytesOf (therapyDated (ymd 2020 2 20)) ≡ therapyBytes
   pub death : bytesOf (deathDated (ymd 2020 2 20)) ≡ deathBytes
 
+-- the same bytes read
 pub record ReadOfEachKind : Type 0 where
   pub printed : recordOfBytes printedBytes ≡ printedBaseline
   pub targets : recordOfBytes fiveTargetsBytes ≡ fiveTargets

@@ -66,6 +66,7 @@ pub record StudyDays : Type 0 where
   pub noDate : studyDayOf (ymd 2021 2 29) (ymd 2020 1 1) ≡ noSuchDate
   pub noRandomisation : studyDayOf (ymd 2021 3 1) (ymd 2021 2 29) ≡ noSuchDate
 
+-- a number or a day; 3 no such date in range; 10 day too early
 pub record ValuesOfCases : Type 0 where
   pub numbers : map dayNumberValues (N.Number (record { 0 = 365 }) ∷ N.NoSuchDate ∷ []) ≡ on 365 ∷ noSuchDate ∷ []
   pub days : map studyDayValues (S.Day (record { 0 = 43 }) ∷ S.BeforeRandomisation ∷ S.NoSuchDate ∷ []) ≡ on 43 ∷ tooEarly ∷ noSuchDate ∷ []

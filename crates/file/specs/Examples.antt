@@ -25,6 +25,7 @@ use Rattle.file.specs.Taking.{refusalTaking, verdictHeld}
 use Rattle.file.specs.Singly.{never, at, numberOf, firstRefusal}
 use Rattle.file.specs.declared.FileAnswer.the-variants as F
 
+-- 13 length 0 (index 0)
 pub record EmptyFile : Type 0 where
   pub nothing : verdictOf [] ≡ refused 13 0
 
@@ -35,6 +36,7 @@ sixty month day = visitDated (ymd 2020 month day) S.NA false (true ∷ []) (60 �
 abbrev pub fallingDays : List Record
 fallingDays = baselineDated (ymd 2020 1 1) true false 1 [] (100 ∷ []) ∷ sixty 3 30 ∷ sixty 4 29 ∷ sixty 2 19 ∷ []
 
+-- 14 response would start after PFS ends
 pub record LateAtTheEdges : Type 0 where
   pub before : startsLate (forDays CENSORED 2) (on 42) (censored 43) ≡ false
   pub sameDay : startsLate (forDays CENSORED 1) (on 43) (censored 43) ≡ false
@@ -75,6 +77,7 @@ missingOutcome =
     record { pfs = censored 1; best = NE; duration = noDuration; pfsSettled = false; bestSettled = true; durationSettled = true }
 
 pub record WholeFiles : Type 0 where
+  -- accepted: its outcome and marks
   pub printed : verdictOf printedFile ≡ accepted printedOutcome
   pub missing : verdictOf missingBytes ≡ accepted missingOutcome
   -- 13 before its records, with index 0

@@ -20,7 +20,9 @@ zeros =
     (events M.Absent 0 M.Absent) noCounts
 
 pub record OpenedAtTheEdges : Type 0 where
+  -- 3 to 5; 7 not a baseline
   pub numbers : map openNumber (O.Done ∷ O.NoSuchDate ∷ O.OutsideLimits ∷ O.NotZero ∷ O.NotBaseline ∷ []) ≡ 0 ∷ 3 ∷ 4 ∷ 5 ∷ 7 ∷ []
+  -- its date is the randomisation date; the latest day starts at 1; whether it has non-target lesions
   pub printed : openedSubject (printedBaseline (ymd 2020 1 1)) ≡ printedOpened
   pub withoutNontarget : openedSubject (baselineDated (ymd 2020 1 1) true false 1 [] (100 ∷ [])) .nontarget ≡ false
   -- a refusal carries its number and nothing else: beside a baseline without a date (3), a visit, a therapy and a death (7) stands the blank

@@ -54,6 +54,7 @@ reads pfs best duration pfsSettled bestSettled durationSettled =
     (record { pfs = pfs; best = best; duration = duration; pfsSettled = pfsSettled; bestSettled = bestSettled; durationSettled = durationSettled })
 
 pub record ReadAtTheEdges : Type 0 where
+  -- neither progression nor death, no visit: censored day 1; nothing is settled
   pub opened : readingOf printedOpened ≡ reads (censored 1) NE noDuration false false false
   -- PR 43, therapy 50: S 0 1 1; PR 43, death 50: S 1 1 1
   pub afterTherapy : readingOf treated ≡ reads (censored 43) SD noDuration false true true
@@ -111,6 +112,7 @@ abbrev pub values : Bool → Bool → Bool → Outcome
 values pfs best duration =
     record { pfs = censored 85; best = PR; duration = forDays CENSORED 43; pfsSettled = pfs; bestSettled = best; durationSettled = duration }
 
+-- 12, or PFS, best response and duration with the mark of each
 pub record ValuesOfCases : Type 0 where
   pub outOfRange : readingValues A.OutOfRange ≡ refused 12
   pub pfsSettled : readingValues (A.Read (result true false false)) ≡ outcome (values true false false)

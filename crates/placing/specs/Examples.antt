@@ -74,6 +74,7 @@ abbrev pub lines : Subject → Record → List VisitLine
 lines s r = linesOn s (dayOn s r) (r .entry) (r .marks) (r .sizes)
 
 pub record FirstRefusals : Type 0 where
+  -- a visit later than the latest day that fits the baseline
   pub fitting : refusal printedOpened visited ≡ 0
   -- 8 before 9, 9 before 10
   pub secondBaseline : refusal died (printedBaseline (ymd 2020 2 12)) ≡ 8
@@ -92,6 +93,7 @@ pub record FirstRefusals : Type 0 where
   pub beyondCount : refusal printedOpened (visitDated (ymd 2020 2 12) S.NN false (false ∷ false ∷ true ∷ []) []) ≡ 11
 
 pub record AddedAtTheEdges : Type 0 where
+  -- the nadir, v, the last evaluable visit and the first counting response move with a visit; a therapy and a death are recorded
   pub visit : added printedOpened visited ≡ printedVisited
   pub therapy : added printedVisited (therapyDated (ymd 2020 2 19)) ≡ treated
   pub death : added printedVisited (deathDated (ymd 2020 2 19)) ≡ died

@@ -10,6 +10,7 @@ use Rattle.codec.specs.Examples.{eleven, fiveTargets, fiveTargetsBytes}
 use Rattle.writing.specs.Writing.{writeNumber, refusalOfWrite, outputOf}
 use Rattle.writing.specs.declared.WriteAnswer.the-variants as W
 
+-- 3 to 5; after those, 6 output under 11 bytes
 pub record FirstRefusals : Type 0 where
   pub badIntoShort : refusalOfWrite (therapyDated (ymd 2021 2 29)) [] ≡ 3
   pub intoTen : refusalOfWrite (therapyDated (ymd 2020 2 20)) (filled 0 10 []) ≡ 6
