@@ -1,6 +1,6 @@
 pub mod Writing
 pub mod Numerals
-pub mod Numbers
+pub mod Fields
 pub mod Bounds
 pub mod Lines
 pub mod Loop

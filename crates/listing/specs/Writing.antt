@@ -2,7 +2,7 @@
 -- Assumes nothing.
 use mathlib.Core.Path.{_≡_}
 use mathlib.Core.List.{List, [], _∷_, map}
-use Prim.Native.Nat.{ℕ, _+_, _*_, _/_, _%_, _≤_, _<_}
+use Prim.Native.Nat.{ℕ, _+_, _*_, _≤_, _<_}
 use lib.ListN.{length}
 use lib.Seq.{sets}
 use Rattle.codec.specs.Reading.{recordOfBytes}
@@ -21,15 +21,6 @@ use Rattle.text.specs.Text.{firstLetter, secondLetter, linesText, linesInOrder,
 pub record Wrote (page : List ℕ) (at : ℕ) (text : List ℕ) (next : ℕ) (left : List ℕ) : Type 0 where
   pub place : next ≡ at + length text
   pub stored : left ≡ sets page at text
-
--- the bytes of a number, the lowest first
-abbrev pub fourBytes : ℕ → List ℕ
-fourBytes w = w % 256 ∷ w / 256 % 256 ∷ w / 65536 % 256 ∷ w / 16777216 ∷ []
-
-abbrev pub eightBytes : ℕ → List ℕ
-eightBytes w =
-    w % 256 ∷ w / 256 % 256 ∷ w / 65536 % 256 ∷ w / 16777216 % 256 ∷ w / 4294967296 % 256 ∷ w / 1099511627776 % 256
-    ∷ w / 281474976710656 % 256 ∷ w / 72057594037927936 ∷ []
 
 -- the two letters of a word as one number
 abbrev pub letters : Word → ℕ

@@ -4,7 +4,7 @@ ghost use mathlib.Core.List.{[], _∷_};
 ghost use Prim.Native.Nat.{_+_, _≤_, _<_};
 ghost use lib.ListN.{length};
 ghost use Rattle.text.specs.Numerals.{digit as Numerals·digit, decimal};
-ghost use Rattle.listing.specs.Writing.{Wrote, fourBytes, eightBytes};
+ghost use Rattle.listing.specs.Writing.{Wrote};
 
 pub(crate) fn put_one(page: &mut [u8], at: usize, a: u8) -> usize
     requires { ⌜ at + 1 ≤ length (now page) ⌝ }
@@ -36,39 +36,6 @@ fn put_four(page: &mut [u8], at: usize, a: u8, b: u8, c: u8, d: u8) -> usize
 {
     let next = put_two(page, at, a, b);
     put_two(page, next, c, d)
-}
-
-// The bytes of a number, the lowest first, which the compiler stores at once.
-pub(crate) fn put_four_of(page: &mut [u8], at: usize, w: u32) -> usize
-    requires { ⌜ at + 4 ≤ length (now page) ⌝ }
-    ensures { λ r. ⌜ Wrote (now (page .entry)) at (fourBytes w) r (now (page .exit)) ⌝ }
-{
-    let second = (w / 256 % 256) as u8;
-    let third = (w / 65536 % 256) as u8;
-    let fourth = (w / 16777216) as u8;
-    put_four(page, at, (w % 256) as u8, second, third, fourth)
-}
-
-pub(crate) fn put_eight_of(page: &mut [u8], at: usize, w: u64) -> usize
-    requires { ⌜ at + 8 ≤ length (now page) ⌝ }
-    ensures { λ r. ⌜ Wrote (now (page .entry)) at (eightBytes w) r (now (page .exit)) ⌝ }
-{
-    let next = put_four(
-        page,
-        at,
-        (w % 256) as u8,
-        (w / 256 % 256) as u8,
-        (w / 65536 % 256) as u8,
-        (w / 16777216 % 256) as u8,
-    );
-    put_four(
-        page,
-        next,
-        (w / 4294967296 % 256) as u8,
-        (w / 1099511627776 % 256) as u8,
-        (w / 281474976710656 % 256) as u8,
-        (w / 72057594037927936) as u8,
-    )
 }
 
 pub(crate) fn put_five(page: &mut [u8], at: usize, a: u8, b: u8, c: u8, d: u8, e: u8) -> usize

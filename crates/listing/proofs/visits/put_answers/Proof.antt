@@ -1,7 +1,8 @@
 -- `listing::visits::put_answers` meets its contract.
 -- Assumes nothing.
 use borrow.Author.Needs.{needs}
-use Rattle.listing.proofs.Writing.{as-text}
+use Rattle.criteria.specs.Words.{targetWord, statusWord, overallWord}
+use Rattle.listing.proofs.Writing.{then, word}
 use Rattle.listing.proofs.visits.put_answers.Statement.{statement}
 use Rattle.listing.proofs.visits.put_answers.Tie as tie
 
@@ -11,5 +12,9 @@ put-answers-spec =
     (tie.spec
     (λ c κs. search needs)
     (λ c κs. search needs)
+    (λ c κs. search needs)
+    (λ c κs. search needs)
+    (λ c κs. search needs)
+    (λ c κs. search needs)
     (λ c. search needs)
-    (λ c. as-text (c .before .before .before .answers-number .ensures) (c .before .before .put-eight-of .ensures)))
+    (λ c. let a = c .before .before .before .before .before .before .before .before .before .before .before .before .before .before .before .before .args in then (word (targetWord (a .target)) _ (c .before .before .before .before .before .before .before .before .before .before .before .before .before .target-letters .ensures) (c .before .before .before .before .before .before .before .before .before .before .before .before .put-word .ensures)) (then (word (statusWord (a .status)) _ (c .before .before .before .before .before .before .before .before .status-letters .ensures) (c .before .before .before .before .before .before .before .put-word2 .ensures)) (word (overallWord (a .overall)) _ (c .before .before .before .overall-letters .ensures) (c .before .before .put-word3 .ensures)))))

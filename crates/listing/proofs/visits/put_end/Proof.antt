@@ -10,7 +10,7 @@ use denote.Ref.{now}
 use Rattle.laws.specs.Choice.{pick}
 use Rattle.criteria.specs.Change.{changeValues}
 use Rattle.listing.specs.Writing.{Wrote}
-use Rattle.listing.proofs.Numbers.{none-written, end-written, sign-true, sign-false, wrote-length}
+use Rattle.listing.proofs.Fields.{none-written, end-written, sign-true, sign-false, wrote-length}
 use Rattle.listing.proofs.visits.put_end.Statement.{statement}
 use Rattle.listing.proofs.visits.put_end.Tie as tie
 

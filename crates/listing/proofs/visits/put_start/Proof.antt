@@ -1,7 +1,7 @@
 -- `listing::visits::put_start` meets its contract.
 -- Assumes nothing.
 use borrow.Author.Needs.{needs}
-use Rattle.listing.proofs.Writing.{then, as-text}
+use Rattle.listing.proofs.Writing.{then}
 use Rattle.listing.proofs.visits.put_start.Statement.{statement}
 use Rattle.listing.proofs.visits.put_start.Tie as tie
 
@@ -12,9 +12,4 @@ put-start-spec =
     (λ c κs. search needs)
     (λ c κs. search needs)
     (λ c. search needs)
-    (λ c. (as-text (c .before .before .before .start-number .ensures) (c .before .before .put-eight-of .ensures), search needs))
-    (λ c κs. search needs)
-    (λ c κs. search needs)
-    (λ c κs. search needs)
-    (λ c. search needs)
-    (λ c. (then (c .before .before .before .before .before .before .before .before .before .before .put-two .ensures) (then (c .before .before .before .before .before .before .put-decimal .ensures .0) (c .before .before .put-one .ensures)), search needs)))
+    (λ c. (then (c .before .before .before .before .before .before .put-two .ensures) (c .before .before .put-decimal .ensures .0), search needs)))

@@ -1,10 +1,7 @@
 -- `listing::visits::put_tenths` meets its contract.
 -- Assumes nothing.
 use borrow.Author.Needs.{needs}
-use mathlib.Core.Path.{ap}
-use mathlib.Core.List.{List, [], _∷_, _++_}
-use Prim.Native.Nat.{ℕ}
-use Rattle.listing.proofs.Numbers.{tenths-text}
+use Rattle.listing.proofs.Fields.{tenths-text}
 use Rattle.listing.proofs.Writing.{then, as-text}
 use Rattle.listing.proofs.visits.put_tenths.Statement.{statement}
 use Rattle.listing.proofs.visits.put_tenths.Tie as tie
@@ -13,15 +10,6 @@ pub put-tenths-spec : {M : Type 1} → statement M
 put-tenths-spec =
     tie.close
     (tie.spec
-    (λ c κs. search needs)
-    (λ c κs. search needs)
-    (λ c. search needs)
-    (λ c. (as-text (c .before .before .before .short-tenths .ensures) (c .before .before .put-four-of .ensures), search needs))
-    (λ c κs. search needs)
-    (λ c κs. search needs)
-    (λ c κs. search needs)
-    (λ c. search needs)
-    (λ c. (as-text (ap (λ (t : List ℕ). t ++ (10 ∷ [])) (c .before .before .before .before .before .before .before .long-tenths .ensures)) (then (c .before .before .before .before .before .before .put-four-of2 .ensures) (c .before .before .put-one .ensures)), search needs))
     (λ c κs. search needs)
     (λ c. search needs)
     (λ c. search needs)

@@ -1,8 +1,8 @@
 -- `listing::visits::put_visit` meets its contract.
 -- Assumes nothing.
 use borrow.Author.Needs.{needs}
-use Rattle.listing.proofs.Numbers.{line-text}
-use Rattle.listing.proofs.Writing.{then, as-text}
+use Rattle.text.specs.Text.{visitText}
+use Rattle.listing.proofs.Writing.{then}
 use Rattle.listing.proofs.visits.put_visit.Statement.{statement}
 use Rattle.listing.proofs.visits.put_visit.Tie as tie
 
@@ -14,4 +14,4 @@ put-visit-spec =
     (λ c κs. search needs)
     (λ c κs. search needs)
     (λ c. search needs)
-    (λ c. as-text (line-text _) (then (c .before .before .before .before .before .before .before .before .before .before .put-start .ensures .0) (then (c .before .before .before .before .before .before .put-answers .ensures) (c .before .before .put-end .ensures .0)))))
+    (λ c. unfold visitText in then (c .before .before .before .before .before .before .before .before .before .before .put-start .ensures .0) (then (c .before .before .before .before .before .before .put-answers .ensures) (c .before .before .put-end .ensures .0))))
