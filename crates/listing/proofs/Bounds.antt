@@ -1,8 +1,11 @@
 -- What is asked of one case of an answer, from what is asked of the answer.
 -- Assumes nothing.
 use mathlib.Core.Path.{_≡_}
-use Prim.Native.Nat.{_<_}
+use Prim.Native.Nat.{ℕ, _<_}
 use native.Mathlib.Omega.{arith}
+use Rattle.criteria.specs.declared.ChangeAnswer.{ChangeAnswer}
+use Rattle.criteria.specs.declared.ChangeAnswer.the-variants as C
+use Rattle.criteria.specs.Change.{changeValues}
 use Rattle.endpoints.specs.declared.DurationAnswer.{DurationAnswer}
 use Rattle.endpoints.specs.declared.DurationAnswer.the-variants as D
 use Rattle.endpoints.specs.declared.DurationResult.{DurationResult}
@@ -17,6 +20,12 @@ use Rattle.listing.specs.Writing.{Writable, AllWritable}
 
 pub days-small : (d : DurationAnswer) (r : DurationResult) → d ≡ D.ForDays r → DurationWithin (durationValues d) → r .days < 100000
 days-small d r q h = let w : Within (r .days) = rw q at h in omega arith
+
+pub increase-small : (a : ChangeAnswer) (n : ℕ) → a ≡ C.Increase n → changeValues a .tenths < 100000 → n < 100000
+increase-small a n q h = rw q at h
+
+pub decrease-small : (a : ChangeAnswer) (n : ℕ) → a ≡ C.Decrease n → changeValues a .tenths < 100000 → n < 100000
+decrease-small a n q h = rw q at h
 
 pub visit-writable : (v : MaybeVisit) (j : JudgedVisit) → v ≡ J.Judged j → AllWritable (visitValues v) → Writable (judgedValues j)
 visit-writable v j q h = let w : Writable (judgedValues j) × Unit {0} = rw q at h in w .0

@@ -1,6 +1,5 @@
 pub mod Writing
 pub mod Numerals
-pub mod Fields
 pub mod Bounds
 pub mod Lines
 pub mod Loop

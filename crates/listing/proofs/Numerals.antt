@@ -1,10 +1,11 @@
 -- The digits that the code stores are those of the number.
 -- Assumes nothing.
 use mathlib.Core.Path.{_≡_, sym, _∙_, ap}
-use mathlib.Core.List.{List, [], _∷_}
-use Prim.Native.Nat.{ℕ, _+_, _/_, _%_, _≤_, _<_}
+use mathlib.Core.List.{List, [], _∷_, _++_, append-assoc}
+use Prim.Native.Nat.{ℕ, _+_, _-_, _*_, _/_, _%_, _≤_, _<_}
 use native.Mathlib.Omega.{arith}
 use Rattle.text.specs.Numerals.{digit, decimal}
+use Rattle.text.specs.Text.{tenthsText}
 use Rattle.text.proofs.Numerals.{one-digit, two-digits, three-digits, four-digits, five-digits}
 use Rattle.listing.specs.Writing.{Wrote}
 use Rattle.listing.proofs.Writing.{as-text}
@@ -40,3 +41,11 @@ module _ (o : List ℕ) (at n : ℕ) (r : ℕ) (o₁ : List ℕ) (e : ℕ) (eq :
         pub wrote-five : 10000 ≤ n → n < 100000 → (a : ℕ) → a ≡ digit (n / 10000) → Wrote o at (a ∷ b ∷ c ∷ d ∷ e ∷ []) r o₁ → Written
         wrote-five h₄ h a aq w =
             (as-text ((λ i. aq i ∷ bq i ∷ cq i ∷ dq i ∷ eq i ∷ []) ∙ sym (five-digits n h₄ h)) w, omega (arith, w .place))
+
+-- the tenths of a percent and the newline
+pub tenths-text : (n d : ℕ) → d ≡ digit (n - n / 10 * 10) → decimal (n / 10) ++ (46 ∷ d ∷ 10 ∷ []) ≡ tenthsText n ++ (10 ∷ [])
+unfolding tenthsText
+tenths-text n d e =
+    let same : n - n / 10 * 10 ≡ n % 10 = omega arith in
+    ap (λ (x : ℕ). decimal (n / 10) ++ (46 ∷ x ∷ 10 ∷ [])) (e ∙ ap digit same)
+    ∙ sym (append-assoc (decimal (n / 10)) (46 ∷ digit (n % 10) ∷ []) (10 ∷ []))

@@ -35,52 +35,22 @@ fn put_tenths(page: &mut [u8], at: usize, n: u32) -> usize
     put_three(page, point, b'.', digit(n - whole * 10), b'\n')
 }
 
-fn is_known(change: ChangeAnswer) -> bool
-    ensures { λ r. ⌜ r ≡ changeValues change .known ⌝ }
-{
-    match change {
-        ChangeAnswer::Absent => false,
-        ChangeAnswer::Increase(_) => true,
-        ChangeAnswer::Decrease(_) => true,
-    }
-}
-
-fn is_negative(change: ChangeAnswer) -> bool
-    ensures { λ r. ⌜ r ≡ changeValues change .negative ⌝ }
-{
-    match change {
-        ChangeAnswer::Absent => false,
-        ChangeAnswer::Increase(_) => false,
-        ChangeAnswer::Decrease(_) => true,
-    }
-}
-
-fn tenths_of(change: ChangeAnswer) -> u64
-    ensures { λ r. ⌜ r ≡ changeValues change .tenths ⌝ }
-{
-    match change {
-        ChangeAnswer::Absent => 0,
-        ChangeAnswer::Increase(n) => n,
-        ChangeAnswer::Decrease(n) => n,
-    }
-}
-
 // A space, the change and the newline.
 fn put_end(page: &mut [u8], at: usize, change: ChangeAnswer) -> usize
     requires { ⌜ (changeValues change .tenths < 100000) × (at + 10 ≤ length (now page)) ⌝ }
     ensures { λ r. ⌜ (Wrote (now (page .entry)) at (32 ∷ (changeText (changeValues change) ++ (10 ∷ []))) r (now (page .exit))) × (r ≤ at + 10) ⌝ }
 {
-    let tenths = tenths_of(change);
-    let negative = is_negative(change);
-    if !is_known(change) {
-        return put_three(page, at, b' ', b'-', b'\n');
+    match change {
+        ChangeAnswer::Absent => put_three(page, at, b' ', b'-', b'\n'),
+        ChangeAnswer::Increase(n) => {
+            let next = put_one(page, at, b' ');
+            put_tenths(page, next, n as u32)
+        }
+        ChangeAnswer::Decrease(n) => {
+            let next = put_two(page, at, b' ', b'-');
+            put_tenths(page, next, n as u32)
+        }
     }
-    let next = if negative {
-        put_two(page, at, b' ', b'-')
-    } else {
-        put_one(page, at, b' ')
-    };
-    put_tenths(page, next, tenths as u32)
 }
 
 // The letter and the study day.
