@@ -1,7 +1,6 @@
 pub mod AtTheEdges
 pub mod Window
-pub mod Visits
 pub mod Returns
 pub mod Found
 pub mod Fine
-pub mod FoundVisits
+pub mod VisitsFound

@@ -14,10 +14,11 @@ use Rattle.records.specs.declared.CheckAnswer.{CheckAnswer}
 use Rattle.records.specs.declared.CheckAnswer.the-variants as C
 use Rattle.codec.specs.Bytes.{recordLength, bytesNumber}
 use Rattle.codec.specs.Fields.{fieldAt}
-use Rattle.codec.specs.Reading.{readNumber, isKind, rawIn, refusalOfRaw, refusalOfNumber, refusalOfBytes, blank, recordOfBytes, JudgesRead, Reads}
+use Rattle.codec.specs.Reading.{readNumber, isKind, rawIn, refusalOfRaw, refusalOfNumber, refusalOfBytes, blank, recordOfBytes, JudgesRead, Reads, visitFieldsIn, blankVisit, visitFieldsOf, ReadsVisit}
 use Rattle.codec.specs.declared.Raw.{Raw}
 use Rattle.codec.specs.declared.ReadAnswer.the-variants as R
 use Rattle.codec.specs.declared.ReadResult.{ReadResult}
+use Rattle.codec.specs.declared.VisitFields.{VisitFields}
 
 -- ---- judging what was read: `search` finds the premises by itself
 
@@ -64,3 +65,14 @@ module _ (s : List ℕ) (x : ReadResult) (b : AreBytes s) where
       reads-judged h w we j =
           let q : refusalOfBytes s ≡ refusalOfRaw w = rw (eq-eqb (length s) recordLength l, ← ke, ← known-e, h, we) in
           record { answer = j .answer ∙ sym q; found = j .found ∙ rw (q, ← ke, we); octets = b }
+
+-- ---- reading what a visit has
+
+module _ (s : List ℕ) (x : VisitFields) (b : AreBytes s) where
+  pub fields-of-none : (length s ≡ recordLength → ⊥) → x ≡ blankVisit → ReadsVisit s x
+  unfolding visitFieldsOf
+  fields-of-none h q = record { fields = q ∙ rw (ne-eqb (length s) recordLength h); octets = b }
+
+  pub fields-read : length s ≡ recordLength → x ≡ visitFieldsIn (bytesNumber s) → ReadsVisit s x
+  unfolding visitFieldsOf
+  fields-read l q = record { fields = q ∙ rw (eq-eqb (length s) recordLength l); octets = b }

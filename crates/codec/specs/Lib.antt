@@ -1,5 +1,4 @@
 pub mod Bytes
 pub mod Reading
 pub mod Fields
-pub mod Visits
 pub mod Examples

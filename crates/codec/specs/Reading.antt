@@ -14,10 +14,10 @@ use Rattle.records.specs.declared.Entry.{Entry}
 use Rattle.records.specs.declared.Entry.the-variants.{Baseline, Visit, Therapy, Death}
 use Rattle.records.specs.declared.Status.{Status}
 use Rattle.records.specs.declared.Status.the-variants.{NA, CR, NN, PD, NE}
-use Rattle.records.specs.declared.VisitEntry.{VisitEntry}
 use Rattle.records.specs.declared.Record.{Record}
 use Rattle.codec.specs.Bytes.{recordLength, baselineLayout, visitLayout, spareLayout, bytesNumber}
 use Rattle.codec.specs.declared.Raw.{Raw}
+use Rattle.codec.specs.declared.VisitFields.{VisitFields}
 use Rattle.codec.specs.declared.ReadAnswer.{ReadAnswer}
 use Rattle.codec.specs.declared.ReadAnswer.the-variants.{Done, NotElevenBytes, NoSuchKind, NoSuchDate, OutsideLimits, NotZero}
 use Rattle.codec.specs.declared.ReadResult.{ReadResult}
@@ -64,25 +64,31 @@ baselineFrom f = record {
   spare = ltb 0 (getD f 17 0);
 }
 
-abbrev pub visitEntryFrom : List ℕ → VisitEntry
-visitEntryFrom f = record { date = dateFrom f; status = statusFrom (getD f 4 0); newlesion = isOne (getD f 5 0) }
-
-abbrev pub visitFrom : List ℕ → Raw
-visitFrom f = record {
-  read = record {
-    entry = Visit (visitEntryFrom f);
-    sizes = sizesFrom (drop 6 f);
-    marks = marksFrom (drop 6 f);
-  };
+-- what a visit has; whether they are a visit's is told by the kind, and the date stands at the same place in every kind
+abbrev pub visitFieldsFrom : List ℕ → VisitFields
+visitFieldsFrom f = record {
+  isvisit = eqb (getD f 0 0) 2;
+  entry = record { date = dateFrom f; status = statusFrom (getD f 4 0); newlesion = isOne (getD f 5 0) };
+  measured = marksFrom (drop 6 f);
+  sizes = sizesFrom (drop 6 f);
   badstatus = ltb 4 (getD f 4 0);
   spare = ltb 0 (getD f 16 0);
 }
+
+abbrev pub rawVisit : VisitFields → Raw
+rawVisit v = record { read = record { entry = Visit (v .entry); sizes = v .sizes; marks = v .measured }; badstatus = v .badstatus; spare = v .spare }
+
+abbrev pub visitFrom : List ℕ → Raw
+visitFrom f = rawVisit (visitFieldsFrom f)
 
 abbrev pub spareFrom : Entry → List ℕ → Raw
 spareFrom e f = record { read = untargeted e; badstatus = false; spare = ltb 0 (getD f 4 0) }
 
 unfoldable pub baselineIn : ℕ → Raw
 baselineIn n = baselineFrom (unpack baselineLayout n)
+
+unfoldable pub visitFieldsIn : ℕ → VisitFields
+visitFieldsIn n = visitFieldsFrom (unpack visitLayout n)
 
 unfoldable pub visitIn : ℕ → Raw
 visitIn n = visitFrom (unpack visitLayout n)
@@ -134,5 +140,30 @@ recordOfBytes s = pick (eqb (refusalOfBytes s) 0) (rawIn (kindIn (bytesNumber s)
 pub record Reads (s : List ℕ) (x : ReadResult) : Type 0 where
   pub answer : readNumber (x .answer) ≡ refusalOfBytes s
   pub found : x .found ≡ recordOfBytes s
+  -- the type `u8` gives it
+  pub octets : AreBytes s
+
+-- the refusals of bytes, 1 to 5, and then another number
+abbrev pub afterReading : List ℕ → ℕ → ℕ
+afterReading s n = pick (eqb (refusalOfBytes s) 0) n (refusalOfBytes s)
+
+-- all zero
+abbrev pub blankVisit : VisitFields
+blankVisit = record {
+  isvisit = false;
+  entry = record { date = record { year = 0; month = 0; day = 0 }; status = NA; newlesion = false };
+  measured = false ∷ false ∷ false ∷ false ∷ false ∷ [];
+  sizes = 0 ∷ 0 ∷ 0 ∷ 0 ∷ 0 ∷ [];
+  badstatus = false;
+  spare = false;
+}
+
+-- 11 bytes as a visit has them, not judged; beside any other number of bytes one fixed blank
+unfoldable pub visitFieldsOf : List ℕ → VisitFields
+visitFieldsOf s = pick (eqb (length s) recordLength) (visitFieldsIn (bytesNumber s)) blankVisit
+
+-- the promise of reading them
+pub record ReadsVisit (s : List ℕ) (x : VisitFields) : Type 0 where
+  pub fields : x ≡ visitFieldsOf s
   -- the type `u8` gives it
   pub octets : AreBytes s

@@ -1,8 +1,7 @@
 // Bytes to what stands in them, before it is judged.
 use super::fields::field;
 use crate::Raw;
-use crate::VisitHead;
-use crate::VisitTarget;
+use crate::VisitFields;
 use dates::Date;
 use records::BaselineEntry;
 use records::Entry;
@@ -10,14 +9,12 @@ use records::Record;
 use records::Status;
 use records::VisitEntry;
 ghost use mathlib.Core.Path.{_≡_};
-ghost use mathlib.Core.Bool.{true, false};
 ghost use Prim.Native.Nat.{_+_, _*_, _≤_, _%_, _^_};
 ghost use lib.Dec.{ltb};
 ghost use lib.ListN.{length};
 ghost use Rattle.codec.specs.Bytes.{recordLength, bytesNumber};
-ghost use Rattle.codec.specs.Fields.{fieldAt, marksAt, sizesAt};
-ghost use Rattle.codec.specs.Visits.{visitEntryIn, isVisitIn, IsTarget, ReadsTarget};
-ghost use Rattle.codec.specs.Reading.{isOne, dateIn, statusFrom, untargeted, blank, baselineIn, visitIn, spareIn, rawIn};
+ghost use Rattle.codec.specs.Fields.{fieldAt, targetsAt};
+ghost use Rattle.codec.specs.Reading.{isOne, dateIn, marksFrom, sizesFrom, statusFrom, untargeted, blank, baselineIn, visitFieldsIn, visitIn, spareIn, rawIn};
 
 // The bit at which each field starts; kind is at 0.
 const YEAR: u32 = 3;
@@ -44,9 +41,6 @@ const VISIT_TARGETS: u32 = 28;
 
 const VISIT_SPARE: u32 = 83;
 
-// What a target's mark is worth above its size.
-const MARK: u16 = 1024;
-
 fn date_in(s: &[u8]) -> Date
     requires { ⌜ length (now s) ≡ recordLength ⌝ }
     ensures { λ r. ⌜ r ≡ dateIn (bytesNumber (now (s .entry))) ⌝ }
@@ -67,7 +61,7 @@ fn bit_at(s: &[u8], at: u32) -> bool
 
 fn marks_at(s: &[u8], at: u32) -> [bool; 5]
     requires { ⌜ (length (now s) ≡ recordLength) × (at + 55 ≤ 8 * recordLength) ⌝ }
-    ensures { λ r. ⌜ r ≡ marksAt (now (s .entry)) at ⌝ }
+    ensures { λ r. ⌜ r ≡ marksFrom (targetsAt (now (s .entry)) at) ⌝ }
 {
     [
         bit_at(s, at),
@@ -80,7 +74,7 @@ fn marks_at(s: &[u8], at: u32) -> [bool; 5]
 
 fn sizes_at(s: &[u8], at: u32) -> [u16; 5]
     requires { ⌜ (length (now s) ≡ recordLength) × (at + 55 ≤ 8 * recordLength) ⌝ }
-    ensures { λ r. ⌜ r ≡ sizesAt (now (s .entry)) at ⌝ }
+    ensures { λ r. ⌜ r ≡ sizesFrom (targetsAt (now (s .entry)) at) ⌝ }
 {
     [
         field(s, at + 1, 10),
@@ -128,88 +122,51 @@ fn baseline_in(s: &[u8]) -> Raw
     }
 }
 
-// What a visit has before its targets.
-pub(crate) fn head_in(s: &[u8]) -> VisitHead
+// What 11 bytes have as a visit.
+pub(crate) fn visit_fields_in(s: &[u8]) -> VisitFields
     requires { ⌜ length (now s) ≡ recordLength ⌝ }
-    ensures { λ x. ⌜ (x .isvisit ≡ isVisitIn (bytesNumber (now (s .entry)))) × (x .entry ≡ visitEntryIn (bytesNumber (now (s .entry)))) ⌝ }
+    ensures { λ r. ⌜ r ≡ visitFieldsIn (bytesNumber (now (s .entry))) ⌝ }
 {
     let kind = field(s, 0, 3);
     let number = field(s, STATUS, 3);
     let date = date_in(s);
     let status = status_from(number);
     let newlesion = bit_at(s, NEW_LESION);
+    let measured = marks_at(s, VISIT_TARGETS);
+    let sizes = sizes_at(s, VISIT_TARGETS);
     let spare = field(s, VISIT_SPARE, 5);
     let entry = VisitEntry {
         date: date,
         status: status,
         newlesion: newlesion,
     };
-    VisitHead {
-        isvisit: (kind == 2) & ((number <= 4) & (spare == 0)),
+    VisitFields {
+        isvisit: kind == 2,
         entry: entry,
+        measured: measured,
+        sizes: sizes,
+        badstatus: 4 < number,
+        spare: 0 < spare,
     }
 }
 
-pub(crate) fn no_target() -> VisitTarget
-    ensures { λ x. ⌜ (x .measured ≡ false) × (x .size ≡ 0) × (x .clear ≡ true) ⌝ }
-{
-    VisitTarget {
-        measured: false,
-        size: 0,
-        clear: true,
-    }
-}
-
-// The mark and the size that start at a bit, read together.
-fn target_at(s: &[u8], at: u32) -> VisitTarget
-    requires { ⌜ (length (now s) ≡ recordLength) × (at + 11 ≤ 8 * recordLength) ⌝ }
-    ensures { λ x. ⌜ IsTarget (isOne (fieldAt (now (s .entry)) at 1)) (fieldAt (now (s .entry)) (at + 1) 10) x ⌝ }
-{
-    let pair = field(s, at, 11);
-    VisitTarget {
-        measured: MARK <= pair,
-        size: pair % MARK,
-        clear: pair == 0,
-    }
-}
-
-pub(crate) fn target_in(s: &[u8], i: u8) -> VisitTarget
-    requires { ⌜ length (now s) ≡ recordLength ⌝ }
-    ensures { λ x. ⌜ ReadsTarget (now (s .entry)) i x ⌝ }
-{
-    match i {
-        0 => target_at(s, VISIT_TARGETS),
-        1 => target_at(s, VISIT_TARGETS + 11),
-        2 => target_at(s, VISIT_TARGETS + 22),
-        3 => target_at(s, VISIT_TARGETS + 33),
-        4 => target_at(s, VISIT_TARGETS + 44),
-        _ => no_target(),
-    }
-}
-
-pub(crate) fn visit_in(s: &[u8]) -> Raw
+fn visit_in(s: &[u8]) -> Raw
     requires { ⌜ length (now s) ≡ recordLength ⌝ }
     ensures { λ r. ⌜ r ≡ visitIn (bytesNumber (now (s .entry))) ⌝ }
 {
-    let number = field(s, STATUS, 3);
-    let date = date_in(s);
-    let status = status_from(number);
-    let entry = Entry::Visit(VisitEntry {
-        date: date,
-        status: status,
-        newlesion: bit_at(s, NEW_LESION),
-    });
-    let sizes = sizes_at(s, VISIT_TARGETS);
-    let marks = marks_at(s, VISIT_TARGETS);
+    let v = visit_fields_in(s);
+    let entry = v.entry;
+    let sizes = v.sizes;
+    let measured = v.measured;
     let read = Record {
-        entry: entry,
+        entry: Entry::Visit(entry),
         sizes: sizes,
-        marks: marks,
+        marks: measured,
     };
     Raw {
         read: read,
-        badstatus: 4 < number,
-        spare: 0 < field(s, VISIT_SPARE, 5),
+        badstatus: v.badstatus,
+        spare: v.spare,
     }
 }
 

@@ -5,10 +5,8 @@ use records::Record;
 use records::Status;
 use records::VisitEntry;
 ghost use mathlib.Core.Path.{_≡_};
-ghost use mathlib.Core.Bool.{false};
 ghost use Rattle.records.specs.Refusals.{checkNumber};
-ghost use Rattle.codec.specs.Reading.{isKind, refusalOfRaw, blank, JudgesRead, Reads};
-ghost use Rattle.codec.specs.Visits.{blankVisit, ReadsHead, ReadsTarget};
+ghost use Rattle.codec.specs.Reading.{isKind, refusalOfRaw, blank, JudgesRead, Reads, blankVisit, ReadsVisit};
 ghost use Rattle.codec.specs.declared.Raw.{Raw};
 
 mod fields; // fields.rt: the bits of one field
@@ -29,19 +27,17 @@ pub struct ReadResult {
     pub found: Record,
 }
 
-// What a visit has before its targets, not judged.
-pub struct VisitHead {
-    // Of kind 2, with a status that is one, and no spare bit set.
+// What bytes have as a visit, not judged.
+pub struct VisitFields {
+    // Of kind 2. The date is that of any other kind too.
     pub isvisit: bool,
     pub entry: VisitEntry,
-}
-
-// One target of a visit, not judged.
-pub struct VisitTarget {
-    pub measured: bool,
-    pub size: u16,
-    // Neither measured nor with a size.
-    pub clear: bool,
+    pub measured: [bool; 5],
+    pub sizes: [u16; 5],
+    // A status that is none.
+    pub badstatus: bool,
+    // A spare bit that is set.
+    pub spare: bool,
 }
 
 // What is read before it is judged: a record, and what has no place in one.
@@ -108,8 +104,8 @@ pub fn read(s: &[u8]) -> ReadResult
     judged(decode::raw_in(kind, s))
 }
 
-fn no_visit() -> VisitHead
-    ensures { λ x. ⌜ (x .isvisit ≡ false) × (x .entry ≡ blankVisit) ⌝ }
+fn blank_visit() -> VisitFields
+    ensures { λ x. ⌜ x ≡ blankVisit ⌝ }
 {
     let date = Date {
         year: 0,
@@ -121,28 +117,22 @@ fn no_visit() -> VisitHead
         status: Status::NA,
         newlesion: false,
     };
-    VisitHead {
+    VisitFields {
         isvisit: false,
         entry: entry,
+        measured: [false, false, false, false, false],
+        sizes: [0, 0, 0, 0, 0],
+        badstatus: false,
+        spare: false,
     }
 }
 
-// What a visit has before its targets; its date is that of any other kind too.
-pub fn visit_head(s: &[u8]) -> VisitHead
-    ensures { λ x. ⌜ ReadsHead (now (s .entry)) x ⌝ }
+// For whoever judges a visit with what is known of its subject; a blank beside any other number of bytes than 11.
+pub fn visit_fields(s: &[u8]) -> VisitFields
+    ensures { λ x. ⌜ ReadsVisit (now (s .entry)) x ⌝ }
 {
     if s.len() != RECORD_LENGTH {
-        return no_visit();
+        return blank_visit();
     }
-    decode::head_in(s)
-}
-
-// Target i of a visit.
-pub fn visit_target(s: &[u8], i: u8) -> VisitTarget
-    ensures { λ x. ⌜ ReadsTarget (now (s .entry)) i x ⌝ }
-{
-    if s.len() != RECORD_LENGTH {
-        return decode::no_target();
-    }
-    decode::target_in(s, i)
+    decode::visit_fields_in(s)
 }

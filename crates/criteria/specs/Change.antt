@@ -39,10 +39,7 @@ unfoldable pub changeBetween : ℕ → ℕ → Tenths
 changeBetween baseline sum = signed (both (ltb sum baseline) (ltb 0 (roundedChange baseline sum))) (roundedChange baseline sum)
 
 -- at a visit with targets, all measured; else none, and none where a baseline sum is 0, as no accepted baseline with targets has it
-abbrev pub changeFrom : BaselineDisease → Bool → ℕ → Tenths
-changeFrom b complete sum =
-    pick (either (eqb (b .count) 0) (either (not complete) (eqb (b .sum) 0))) none (changeBetween (b .sum) sum)
-
--- from what was measured and the sizes
 unfoldable pub changeOf : BaselineDisease → List Bool → List ℕ → Tenths
-changeOf b measured sizes = changeFrom b (allMeasured (b .count) measured) (measuredSum measured sizes)
+changeOf b measured sizes =
+    pick (either (eqb (b .count) 0) (either (not (allMeasured (b .count) measured)) (eqb (b .sum) 0))) none
+    (changeBetween (b .sum) (measuredSum measured sizes))

@@ -28,10 +28,7 @@ nadirOf b earlier = leastOf (b .sum) (completeSums (b .count) earlier)
 abbrev pub leftBy : BaselineDisease → List Visit → Earlier
 leftBy b earlier = record { nadir = nadirOf b earlier }
 
--- what is left after one visit more, from whether all are measured and the sum of the measured
-abbrev pub afterSum : Earlier → Bool → ℕ → Earlier
-afterSum earlier complete sum = record { nadir = pick complete (min sum (earlier .nadir)) (earlier .nadir) }
-
--- from what was measured and the sizes
+-- what is left after one visit more
 unfoldable pub afterVisit : ℕ → Earlier → List Bool → List ℕ → Earlier
-afterVisit count earlier measured sizes = afterSum earlier (allMeasured count measured) (measuredSum measured sizes)
+afterVisit count earlier measured sizes =
+    record { nadir = pick (allMeasured count measured) (min (measuredSum measured sizes) (earlier .nadir)) (earlier .nadir) }

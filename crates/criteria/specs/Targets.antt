@@ -43,17 +43,12 @@ grown nadir sum = both (leb (nadir + grownBy) sum) (leb (grownToFifths * nadir) 
 unfoldable pub shrunk : ℕ → ℕ → Bool
 shrunk baseline sum = leb (10 * sum) (partialTenths * baseline)
 
--- the first that applies, from the sum of the measured, whether all are measured, and whether every node is at most 9 and every other 0
-abbrev pub targetBy : BaselineDisease → Earlier → ℕ → Bool → Bool → Word
-targetBy b earlier sum complete normal =
-    pick (eqb (b .count) 0) NA
-    (pick (both complete normal) CR
-    (pick (grown (earlier .nadir) sum) PD
-    (pick (not complete) NE
-    (pick (shrunk (b .sum) sum) PR
-    SD))))
-
--- from what was measured and the sizes of a visit
+-- the first that applies
 unfoldable pub targetAnswer : BaselineDisease → Earlier → List Bool → List ℕ → Word
 targetAnswer b earlier measured sizes =
-    targetBy b earlier (measuredSum measured sizes) (allMeasured (b .count) measured) (allGone (b .count) (b .nodes) sizes)
+    pick (eqb (b .count) 0) NA
+    (pick (both (allMeasured (b .count) measured) (allGone (b .count) (b .nodes) sizes)) CR
+    (pick (grown (earlier .nadir) (measuredSum measured sizes)) PD
+    (pick (not (allMeasured (b .count) measured)) NE
+    (pick (shrunk (b .sum) (measuredSum measured sizes)) PR
+    SD))))

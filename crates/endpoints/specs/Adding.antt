@@ -12,6 +12,7 @@ use Rattle.records.specs.Form.{dateOf, kindNumber}
 use Rattle.records.specs.Refusals.{refusalOf}
 use Rattle.endpoints.specs.StudyRecords.{Baseline, StudyRecord, baseline, visit, therapy, death, onStudyDay, onStudyDays}
 use Rattle.endpoints.specs.Lawful.{Past, latestDay, died, fits}
+use Rattle.endpoints.specs.Lines.{VisitLine, linesOf}
 
 abbrev pub isBaseline : StudyRecord → Bool
 isBaseline (baseline b) = true
@@ -63,6 +64,20 @@ refusalOfOpening r = afterOwn r (notBaseline (r .entry))
 unfoldable pub refusalOfAdding : List Record → Record → ℕ
 refusalOfAdding [] r = afterOwn r 7
 refusalOfAdding (b ∷ rs) r = afterOwn r (refusalAfter (onStudyDays (b ∷ rs)) (onStudyDay (dateOf (b .entry)) r))
+
+-- the responses at a visit behind a list in the order recorded; no other record has them
+abbrev pub linesAfter : List StudyRecord → StudyRecord → List VisitLine
+linesAfter [] r = []
+linesAfter (baseline b ∷ rs) r = linesOf b (reverse rs) r
+linesAfter (visit d v ∷ rs) r = []
+linesAfter (therapy d ∷ rs) r = []
+linesAfter (death d ∷ rs) r = []
+
+-- what an addition replies of a visit, by the number of its refusal: beside a refusal nothing
+abbrev pub responsesOfAdding : List Record → Record → List VisitLine
+responsesOfAdding [] r = []
+responsesOfAdding (b ∷ rs) r =
+    pick (eqb (refusalOfAdding (b ∷ rs) r) 0) (linesAfter (onStudyDays (b ∷ rs)) (onStudyDay (dateOf (b .entry)) r)) []
 
 pub data Call : Type 0 where
   add : Record → Call

@@ -1,7 +1,7 @@
 -- Document 01, "Change in size, file and listing": what the listing tells of each visit.
 -- Assumes nothing.
 use Prim.Native.Nat.{ℕ}
-use mathlib.Core.List.{List, [], _∷_, _++_}
+use mathlib.Core.List.{List, [], _∷_, _++_, reverse}
 use Rattle.criteria.specs.Words.{Word, statusWord}
 use Rattle.criteria.specs.Inputs.{Visit}
 use Rattle.criteria.specs.Change.{Tenths}
@@ -40,3 +40,11 @@ linesOf b p (death d) = []
 abbrev pub visitLines : Baseline → Past → List VisitLine
 visitLines b [] = []
 visitLines b (r ∷ p) = visitLines b p ++ linesOf b p r
+
+-- the lines of the visits of accepted records in the order recorded, baseline first
+abbrev pub linesInOrder : List StudyRecord → List VisitLine
+linesInOrder [] = []
+linesInOrder (baseline b ∷ rs) = visitLines b (reverse rs)
+linesInOrder (visit d v ∷ rs) = []
+linesInOrder (therapy d ∷ rs) = []
+linesInOrder (death d ∷ rs) = []

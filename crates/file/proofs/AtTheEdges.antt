@@ -3,33 +3,28 @@
 use mathlib.Core.Path.{refl}
 use Rattle.dates.specs.Calendar.{leapYear, daysInMonth, dateExists, daysOfYears, daysOfMonths, dayNumber}
 use Rattle.dates.specs.Answers.{studyDayOf}
-use Rattle.records.specs.Refusals.{largeMeasured, sizedUnmeasured, outsideLimits, notZero, refusalOfRead}
-use Rattle.codec.specs.Bytes.{bytesNumber}
-use Rattle.codec.specs.Reading.{statusFrom, visitIn, rawIn, refusalOfNumber, refusalOfBytes, recordOfBytes}
 use Rattle.parts.specs.Parts.{badLength}
 use Rattle.criteria.specs.Sums.{measuredSum, baselineSum, allMeasured}
 use Rattle.criteria.specs.Targets.{allGone, grown, shrunk, targetAnswer}
 use Rattle.criteria.specs.Nadir.{nadirOf}
 use Rattle.criteria.specs.Overall.{overallAnswer}
-use Rattle.endpoints.specs.Lawful.{measuredBeyond, fitsBy}
 use Rattle.endpoints.specs.Visits.{judge}
 use Rattle.endpoints.specs.Pfs.{pfs}
 use Rattle.endpoints.specs.Best.{best, duration}
 use Rattle.endpoints.specs.Settled.{pfsSettledBy, bestSettledBy, durationSettledBy}
-use Rattle.held.specs.Range.{inRange}
+use Rattle.held.specs.Range.{enrolmentInRange, followUpInRange, inRange}
 use Rattle.opening.specs.Opening.{blank}
-use Rattle.placing.specs.Refusals.{refusalOn}
 use Rattle.outcome.specs.Promises.{outcomeOf}
 use Rattle.file.specs.File.{startsLate, verdictOf}
-use Rattle.file.specs.Taking.{verdictHeld}
-use Rattle.file.specs.Examples.{EmptyFile, LateAtTheEdges, TakingAtTheEdges, FirstOfCalls, ValuesOfCases}
+use Rattle.file.specs.Ending.{verdictHeld}
+use Rattle.file.specs.Examples.{EmptyFile, LateAtTheEdges, FirstOfCalls, ValuesOfCases}
 
 pub empty-file : EmptyFile
 unfolding verdictOf badLength
 empty-file = record { nothing = refl }
 
 pub late-at-the-edges : LateAtTheEdges
-unfolding leapYear daysInMonth dateExists daysOfYears daysOfMonths dayNumber studyDayOf measuredSum baselineSum allMeasured allGone grown shrunk targetAnswer nadirOf overallAnswer judge pfs best duration pfsSettledBy bestSettledBy durationSettledBy inRange blank outcomeOf startsLate verdictHeld
+unfolding leapYear daysInMonth dateExists daysOfYears daysOfMonths dayNumber studyDayOf measuredSum baselineSum allMeasured allGone grown shrunk targetAnswer nadirOf overallAnswer judge pfs best duration pfsSettledBy bestSettledBy durationSettledBy enrolmentInRange followUpInRange inRange blank outcomeOf startsLate verdictHeld
 late-at-the-edges =
     record {
       before = refl;
@@ -41,10 +36,6 @@ late-at-the-edges =
       heldLate = refl;
       heldOnTime = refl;
     }
-
-pub taking-at-the-edges : TakingAtTheEdges
-unfolding leapYear daysInMonth dateExists daysOfYears daysOfMonths dayNumber studyDayOf largeMeasured sizedUnmeasured outsideLimits notZero refusalOfRead bytesNumber statusFrom visitIn rawIn refusalOfNumber refusalOfBytes recordOfBytes measuredBeyond fitsBy refusalOn
-taking-at-the-edges = record { fitting = refl; kind0 = refl; sameDay = refl }
 
 pub first-of-calls : FirstOfCalls
 first-of-calls = record { readFirst = refl; thenAdded = refl; atIndex2 = refl; none = refl }

@@ -22,8 +22,10 @@ use Rattle.codec.specs.Bytes.{recordLength, bytesNumber}
 use Rattle.codec.specs.Reading.{readNumber, kindIn, rawIn, isKind, refusalOfNumber, refusalOfBytes, recordOfBytes, Reads}
 use Rattle.codec.proofs.Found.{found-five}
 use Rattle.held.specs.declared.Subject.{Subject}
-use Rattle.outcome.specs.Promises.{nextSubject}
-use Rattle.outcome.proofs.Runs.{some-refusal, opens as some-opening, readable}
+use Rattle.endpoints.specs.Lines.{VisitLine}
+use Rattle.placing.specs.Promises.{subjectBy, refusalHeld}
+use Rattle.outcome.proofs.Answers.{some-addition}
+use Rattle.outcome.proofs.Runs.{opens as some-opening, readable}
 use Rattle.parts.specs.Parts.{badLength, parts, partsOf}
 use Rattle.file.specs.Singly.{Adds, none, adds, opens, Called}
 use Rattle.parts.proofs.Cut.{one-part}
@@ -63,17 +65,18 @@ drop-bytes s h n k = rw (getD-drop n s k 0) (h (n + k))
 -- answers for parts read and added, from any subject
 record Later (u : Subject) (ps : List (List ℕ)) : Type 0 where
   numbers : List ℕ
+  responses : List VisitLine
   last : Subject
-  calls : Adds u ps numbers last
+  calls : Adds u ps numbers responses last
 
 later : (u : Subject) (n : ℕ) (s : List ℕ) → AreBytes s → Later u (parts n s)
-later u zero s h = record { numbers = _; last = u; calls = none }
+later u zero s h = record { numbers = _; responses = _; last = u; calls = none }
 later u (suc n) s h =
     let read = some-read (take recordLength s) (take-bytes s h recordLength) in
     let found = read .0 .found in
-    let now = some-refusal u found in
-    let rest = later (nextSubject u found) n (drop recordLength s) (drop-bytes s h recordLength) in
-    record { numbers = _; last = rest .last; calls = adds {a = now .0} (read .1) (record { answer = now .1; left = refl }) (rest .calls) }
+    let now = some-addition u found in
+    let rest = later (subjectBy u found (refusalHeld u found)) n (drop recordLength s) (drop-bytes s h recordLength) in
+    record { numbers = _; responses = _; last = rest .last; calls = adds {a = now .0} (read .1) (now .1) (rest .calls) }
 
 -- the first part opens
 from-first : (n : ℕ) (s : List ℕ) → AreBytes s → Called (parts (suc n) s)
@@ -83,7 +86,7 @@ from-first n s h =
     let opening = some-opening (read .0 .found) (subst Five (sym (read .1 .found)) (found-five part)) in
     let rest = later (opening .1) n (drop recordLength s) (drop-bytes s h recordLength) in
     let told = readable (rest .last) in
-    record { numbers = _; left = rest .last; singly = opens (read .1) (opening .2) (rest .calls); told = told .0; reads = told .1 }
+    record { numbers = _; responses = _; left = rest .last; singly = opens (read .1) (opening .2) (rest .calls); told = told .0; reads = told .1 }
 
 pub called : (s : List ℕ) → AreBytes s → badLength (length s) ≡ false → Called (partsOf s)
 called s h fair = subst (λ (n : ℕ). Called (parts n s)) (sym (one-part s fair)) (from-first (length s / recordLength - 1) s h)

@@ -10,18 +10,19 @@ use native.Mathlib.Omega.{arith}
 use lib.Dec.{eqb}
 use borrow.Author.Tests.{eq-eqb, eqb-true, eqb-false}
 use Rattle.laws.specs.Choice.{pick}
+use Rattle.dates.specs.declared.Date.{Date}
 use Rattle.records.specs.declared.BaselineEntry.{BaselineEntry}
 use Rattle.records.specs.declared.Entry.{Entry}
 use Rattle.records.specs.declared.Entry.the-variants as E
 use Rattle.records.specs.declared.Record.{Record}
-use Rattle.records.specs.Refusals.{refusalOf}
-use Rattle.codec.specs.Reading.{refusalOfBytes, recordOfBytes}
-use Rattle.codec.proofs.Fine.{found-fine}
+use Rattle.codec.specs.Reading.{refusalOfBytes, recordOfBytes, afterReading}
+use Rattle.codec.proofs.Found.{found-five}
 use Rattle.endpoints.specs.Values.{Outcome, dayValue}
-use Rattle.endpoints.specs.StudyRecords.{Baseline, baseline, fieldsPass, onStudyDays}
+use Rattle.endpoints.specs.StudyRecords.{Baseline, baseline, fieldsPass, entryOnStudyDay, onStudyDays}
 use Rattle.endpoints.specs.Lawful.{Past}
 use Rattle.endpoints.specs.Visits.{counting}
 use Rattle.endpoints.specs.Best.{firstResponse}
+use Rattle.endpoints.specs.Lines.{VisitLine, linesOf, visitLines, linesInOrder}
 use Rattle.endpoints.specs.Adding.{notBaseline, refusalOfOpening, refusalOfAdding}
 use Rattle.endpoints.proofs.Refusals.{own-passed}
 use Rattle.endpoints.proofs.Calls.{none-of-both}
@@ -29,19 +30,20 @@ use Rattle.held.specs.declared.Subject.{Subject}
 use Rattle.held.proofs.Follows.{day-of-maybe, countedOf, summary}
 use Rattle.opening.specs.declared.OpenAnswer.{OpenAnswer}
 use Rattle.opening.specs.declared.OpenAnswer.the-variants as N
-use Rattle.opening.specs.Opening.{openNumber, subjectOf, openedSubject, Opened}
+use Rattle.opening.specs.Opening.{openNumber, subjectOf, openedSubject, Opened, OpensBytes}
 use Rattle.opening.proofs.Follows.{opening-follows}
 use Rattle.placing.specs.declared.AddAnswer.{AddAnswer}
+use Rattle.placing.specs.Lines.{addResponses}
+use Rattle.placing.specs.Refusals.{addNumber}
+use Rattle.placing.specs.Promises.{Added, AddedBytes}
 use Rattle.outcome.specs.declared.OutcomeAnswer.{OutcomeAnswer}
-use Rattle.outcome.specs.Promises.{refusalOnDay, refusalHeld, nextSubject, Added, pfsHeld, durationHeld, outcomeOf, outcome, readingValues, Told}
+use Rattle.outcome.specs.Promises.{pfsHeld, durationHeld, outcomeOf, outcome, readingValues, Told}
 use Rattle.outcome.proofs.Follows.{pfs-held, duration-held, outcome-held}
 use Rattle.outcome.proofs.Within.{calls-in-range, reading-in-range}
-use Rattle.outcome.proofs.Runs.{some-refusal}
-use Rattle.outcome.proofs.Demand.{first, base, past, Held, number, grown}
+use Rattle.outcome.proofs.Demand.{first, base, on-day, past, past-one-more, Held, number, responses, grown}
 use Rattle.file.specs.declared.FileAnswer.{FileAnswer}
-use Rattle.file.specs.declared.TakenRecord.{TakenRecord}
-use Rattle.file.specs.File.{afterReading, refusalOfPart, Verdict, refused, accepted, startsLate, verdictOn, fileValues}
-use Rattle.file.specs.Taking.{TakesFirst, refusalTaking, Takes, verdictHeld, Ends}
+use Rattle.file.specs.File.{refusalOfPart, Verdict, refused, accepted, startsLate, verdictOn, fileValues}
+use Rattle.file.specs.Ending.{verdictHeld, Ends}
 
 -- the subject is what is held after the records, which open with a baseline that 4 and 5 do not meet
 pub record Taken (rs : List Record) (s : Subject) : Type 0 where
@@ -77,6 +79,13 @@ none-read part n e = go (eqb (refusalOfBytes part) 0) refl
 
 -- ---- the first record
 
+-- alone it has no line
+pub alone : (d : Date) (e : Entry) (marks : List Bool) (sizes : List ℕ) → linesInOrder (entryOnStudyDay d e marks sizes ∷ []) ≡ []
+alone d (E.Baseline b) marks sizes = refl
+alone d (E.Visit v) marks sizes = refl
+alone d (E.Therapy x) marks sizes = refl
+alone d (E.Death x) marks sizes = refl
+
 pub opened-taken : {a : OpenAnswer} {s : Subject} (e : Entry) (marks : List Bool) (sizes : List ℕ) → Opened (record { entry = e; sizes = sizes; marks = marks }) a s →
     openNumber a ≡ 0 → notBaseline e ≡ 0 → Taken (record { entry = e; sizes = sizes; marks = marks } ∷ []) s
 unfolding openedSubject refusalOfOpening
@@ -95,62 +104,56 @@ opened-taken (E.Visit v) marks sizes w z n = absurd (let f : ⊥ = omega arith i
 opened-taken (E.Therapy d) marks sizes w z n = absurd (let f : ⊥ = omega arith in f)
 opened-taken (E.Death d) marks sizes w z n = absurd (let f : ⊥ = omega arith in f)
 
-pub first-taken : (part : List ℕ) (x : TakenRecord) → TakesFirst part x → x .number ≡ 0 → Taken (recordOfBytes part ∷ []) (x .subject)
+pub first-taken : (part : List ℕ) (a : OpenAnswer) (s : Subject) → OpensBytes part a s → openNumber a ≡ 0 → Taken (recordOfBytes part ∷ []) s
 unfolding refusalOfOpening
-first-taken part x w z =
+first-taken part a s w z =
     let r = recordOfBytes part in
-    let none = none-read part (refusalOfOpening r) (sym (w .number) ∙ z) .1 in
-    let opened : Opened r N.Done (x .subject) = record { answer = sym none; made = w .left; five = w .five } in
+    let none = none-read part (refusalOfOpening r) (sym (w .answer) ∙ z) .1 in
+    let opened : Opened r N.Done s = record { answer = sym none; made = w .made; five = found-five part } in
     opened-taken (r .entry) (r .marks) (r .sizes) opened refl
     (none-of-both r (notBaseline (r .entry)) .0 none .1)
 
 -- ---- a later record
 
-module _ {rs : List Record} {s : Subject} (t : Taken rs s) (part : List ℕ) (x : TakenRecord) (w : Takes s part x) where
+module _ {rs : List Record} {s t : Subject} {a : AddAnswer} (h : Taken rs s) (r : Record) (w : Added s r a t) where
+  pub adding : addNumber a ≡ refusalOfAdding rs r
+  adding = number (h .entry) (h .marks) (h .sizes) (h .later) r (h .held) w ∙ ap (λ (l : List Record). refusalOfAdding l r) (sym (h .opens))
+
+  pub accepts : addNumber a ≡ 0 → eqb (refusalOfAdding (first (h .entry) (h .marks) (h .sizes) ∷ h .later) r) 0 ≡ true
+  accepts z = eq-eqb _ 0 (sym (number (h .entry) (h .marks) (h .sizes) (h .later) r (h .held) w) ∙ z)
+
+  pub more : addNumber a ≡ 0 → Taken (rs ++ (r ∷ [])) t
+  more z = taken-more h r w (accepts z)
+
+  -- the lines of the records with one more are those before it and the responses answered
+  pub lines-more : addNumber a ≡ 0 → linesInOrder (onStudyDays (rs ++ (r ∷ []))) ≡ linesInOrder (onStudyDays rs) ++ addResponses a
+  lines-more z =
+      let b = base (h .entry) (h .marks) (h .sizes) in
+      let p = past (h .entry) (h .marks) (h .sizes) (h .later) in
+      let next = on-day (h .entry) (h .marks) (h .sizes) r in
+      let answered : addResponses a ≡ linesOf b p next = responses (h .entry) (h .marks) (h .sizes) (h .later) r (h .held) w ∙ rw (accepts z) in
+      ap (λ (l : List Record). linesInOrder (onStudyDays (l ++ (r ∷ [])))) (h .opens)
+      ∙ ap (visitLines b) (past-one-more (h .entry) (h .marks) (h .sizes) (h .later) r)
+      ∙ ap (λ (l : List VisitLine). visitLines b p ++ l) (sym answered)
+      ∙ ap (λ (l : List Record). linesInOrder (onStudyDays l) ++ addResponses a) (sym (h .opens))
+
+module _ {rs : List Record} {s t : Subject} {part : List ℕ} {a : AddAnswer} (h : Taken rs s) (w : AddedBytes s part a t) where
   abbrev r : Record
   r = recordOfBytes part
 
-  some-added : (a : AddAnswer) × Added s r a (nextSubject s r)
-  some-added = let some = some-refusal s r in (some .0, record { answer = some .1; left = refl })
-
-  adding : refusalHeld s r ≡ refusalOfAdding (first (t .entry) (t .marks) (t .sizes) ∷ t .later) r
-  adding = sym (some-added .1 .answer) ∙ number (t .entry) (t .marks) (t .sizes) (t .later) r (t .held) (some-added .1)
-
-  module _ (e : refusalOfBytes part ≡ 0) where
-    own : refusalOf r ≡ 0
-    own = found-fine part (w .octets) e
-
-    held-number : refusalHeld s r ≡ refusalOnDay s r
-    unfolding refusalHeld
-    held-number = rw (t .held .inside, own)
-
-    read-number : refusalOnDay s r ≡ refusalOfAdding rs r
-    read-number = sym held-number ∙ adding ∙ ap (λ (l : List Record). refusalOfAdding l r) (sym (t .opens))
-
-  taking-number : refusalTaking s part ≡ afterReading part (refusalOfAdding rs r)
-  taking-number = go (eqb (refusalOfBytes part) 0) refl
+  read-then : addNumber a ≡ afterReading part (refusalOfAdding rs r)
+  read-then = go (eqb (refusalOfBytes part) 0) refl
     where
-      go : (b : Bool) → eqb (refusalOfBytes part) 0 ≡ b → pick b (refusalOnDay s r) (refusalOfBytes part) ≡ pick b (refusalOfAdding rs r) (refusalOfBytes part)
-      go true q = read-number (eqb-true (refusalOfBytes part) 0 q)
-      go false q = refl
+      go : (b : Bool) → eqb (refusalOfBytes part) 0 ≡ b → addNumber a ≡ pick b (refusalOfAdding rs r) (refusalOfBytes part)
+      go true q = adding h r (calls-in-range .fromBytes w (eqb-true (refusalOfBytes part) 0 q))
+      go false q = calls-in-range .notFromBytes w (h .held .inside) (eqb-false (refusalOfBytes part) 0 q) .0
 
-  part-number : afterReading part (refusalOfAdding rs r) ≡ refusalOfPart rs part
-  part-number = rw (t .opens)
+  pub later-number : addNumber a ≡ refusalOfPart rs part
+  later-number = read-then ∙ rw (h .opens)
 
-  pub later-number : x .number ≡ refusalOfPart rs part
-  later-number = w .number ∙ taking-number ∙ part-number
-
-  pub later-taken : x .number ≡ 0 → Taken (rs ++ (r ∷ [])) (x .subject)
-  unfolding nextSubject
-  later-taken z =
-      let none : refusalTaking s part ≡ 0 = sym (w .number) ∙ z in
-      let read = none-read part (refusalOnDay s r) none .0 in
-      let accepts : eqb (refusalOfAdding (first (t .entry) (t .marks) (t .sizes) ∷ t .later) r) 0 ≡ true =
-      eq-eqb _ 0 (sym adding ∙ held-number read ∙ none-read part (refusalOnDay s r) none .1) in
-      let next : x .subject ≡ nextSubject s r =
-      w .left ∙ (rw (eq-eqb (refusalTaking s part) 0 none, held-number read, eq-eqb (refusalOnDay s r) 0 (none-read part (refusalOnDay s r) none .1))) in
-      let added : Added s r (some-added .0) (x .subject) = record { answer = some-added .1 .answer; left = next } in
-      taken-more t r added accepts
+  -- done, so that the bytes were read
+  pub later-added : addNumber a ≡ 0 → Added s r a t
+  later-added z = calls-in-range .fromBytes w (none-read part (refusalOfAdding rs r) (sym read-then ∙ z) .0)
 
 -- ---- behind the last record
 
@@ -169,13 +172,13 @@ module _ {rs : List Record} {s : Subject} (t : Taken rs s) (last : ℕ) where
   held = summary (t .entry .date) b p
 
   abbrev verdictIn : Subject → Verdict
-  verdictIn u = pick (startsLate (durationHeld u) (dayValue (u .counted .first)) (pfsHeld u)) (refused 14 last) (accepted (outcomeOf u))
+  verdictIn u = pick (startsLate (durationHeld u) (dayValue (u .followup .counted .first)) (pfsHeld u)) (refused 14 last) (accepted (outcomeOf u))
 
   inside : verdictHeld s last ≡ verdictIn s
   unfolding verdictHeld
   inside = rw (t .held .inside)
 
-  first-held : dayValue (held .counted .first) ≡ firstResponse (counting b p)
+  first-held : dayValue (held .followup .counted .first) ≡ firstResponse (counting b p)
   unfolding summary countedOf
   first-held = day-of-maybe (firstResponse (counting b p))
 
@@ -189,7 +192,7 @@ module _ {rs : List Record} {s : Subject} (t : Taken rs s) (last : ℕ) where
   verdict-taken = ap verdictIn (t .held .same) ∙ verdict-held ∙ ap (λ (l : List Record). verdictOn (onStudyDays l) last) (sym (t .opens))
 
   pub told-verdict : {q : OutcomeAnswer} → Told s q → EndsBy (verdictOn (onStudyDays rs) last) last q
-  told-verdict {q} w = rw (← verdict-taken) (go (startsLate (durationHeld s) (dayValue (s .counted .first)) (pfsHeld s)))
+  told-verdict {q} w = rw (← verdict-taken) (go (startsLate (durationHeld s) (dayValue (s .followup .counted .first)) (pfsHeld s)))
     where
       go : (late : Bool) → EndsBy (pick late (refused 14 last) (accepted (outcomeOf s))) last q
       go true = inl refl

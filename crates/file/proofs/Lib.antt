@@ -1,10 +1,8 @@
 pub mod AtTheEdges
-pub mod Verdicts
-pub mod Counting
-pub mod Returns
-pub mod PlainTaken
-pub mod Follows
 pub mod Called
+pub mod Follows
+mod Returns
 pub mod Singly
 pub mod Turns
+pub mod Verdicts
 pub mod WorkedExamples

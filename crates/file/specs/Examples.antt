@@ -16,12 +16,13 @@ use Rattle.codec.specs.declared.ReadResult.{ReadResult}
 use Rattle.codec.specs.Reading.{blank}
 use Rattle.criteria.specs.Words.{PR, NE}
 use Rattle.endpoints.specs.Values.{on, EVENT, CENSORED, event, censored, noDuration, forDays, Outcome}
+use Rattle.endpoints.specs.declared.BestResponse.the-variants as B
 use Rattle.endpoints.specs.declared.MaybeDay.the-variants as M
-use Rattle.held.specs.Examples.{onDay, events, counts, printedOpened, printedVisited}
+use Rattle.held.specs.Examples.{onDay, events, counts}
 use Rattle.opening.specs.Opening as O
 use Rattle.outcome.specs.Examples.{heldWith, result, values}
 use Rattle.file.specs.File.{refused, accepted, startsLate, verdictFrom, verdictOf, fileValues}
-use Rattle.file.specs.Taking.{refusalTaking, verdictHeld}
+use Rattle.file.specs.Ending.{verdictHeld}
 use Rattle.file.specs.Singly.{never, at, numberOf, firstRefusal}
 use Rattle.file.specs.declared.FileAnswer.the-variants as F
 
@@ -46,17 +47,11 @@ pub record LateAtTheEdges : Type 0 where
   pub last : verdictFrom fallingDays 4 [] ≡ refused 14 3
   -- and on the held subject, behind 12
   pub outOfRange : verdictHeld O.blank 3 ≡ refused 12 3
-  pub heldLate : verdictHeld (heldWith true 120 false M.Absent (events M.Absent 50 (onDay 50)) (counts (onDay 90) M.Absent false true true false)) 3
+  pub heldLate : verdictHeld (heldWith true 120 false M.Absent (events M.Absent 50 (onDay 50)) (counts (onDay 90) M.Absent B.PR)) 3
       ≡ refused 14 3
-  pub heldOnTime : verdictHeld (heldWith true 120 false M.Absent (events M.Absent 120 (onDay 120)) (counts (onDay 90) M.Absent false true true false)) 3
+  pub heldOnTime : verdictHeld (heldWith true 120 false M.Absent (events M.Absent 120 (onDay 120)) (counts (onDay 90) M.Absent B.PR)) 3
       ≡ accepted
       (record { pfs = censored 120; best = PR; duration = forDays CENSORED 31; pfsSettled = false; bestSettled = false; durationSettled = false })
-
--- the refusals of a later record of a file: 2 to 5, then 8 to 11
-pub record TakingAtTheEdges : Type 0 where
-  pub fitting : refusalTaking printedOpened printedVisitBytes ≡ 0
-  pub kind0 : refusalTaking printedOpened (eleven []) ≡ 2
-  pub sameDay : refusalTaking printedVisited printedVisitBytes ≡ 10
 
 -- the file of the printed example: 2020-01-01, 02-12 (24, 12), 03-25 (0, 9) and 05-06 (0, 15)
 abbrev pub printedFile : List ℕ

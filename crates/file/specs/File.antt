@@ -8,7 +8,7 @@ use lib.Dec.{ltb, eqb}
 use lib.ListN.{length}
 use Rattle.laws.specs.Choice.{both, pick}
 use Rattle.records.specs.declared.Record.{Record}
-use Rattle.codec.specs.Reading.{refusalOfBytes, recordOfBytes}
+use Rattle.codec.specs.Reading.{recordOfBytes, afterReading}
 use Rattle.parts.specs.Parts.{badLength, partsOf}
 use Rattle.endpoints.specs.Values.{Day, none, on, Pfs, Duration, exists, Outcome}
 use Rattle.endpoints.specs.StudyRecords.{Baseline, StudyRecord, baseline, visit, therapy, death, onStudyDays}
@@ -22,11 +22,7 @@ use Rattle.outcome.specs.Promises.{outcomeValues}
 use Rattle.file.specs.declared.FileAnswer.{FileAnswer}
 use Rattle.file.specs.declared.FileAnswer.the-variants as F
 
--- 2 to 5 where reading refuses the bytes, of which there are 11; else another number
-abbrev pub afterReading : List ℕ → ℕ → ℕ
-afterReading part n = pick (eqb (refusalOfBytes part) 0) n (refusalOfBytes part)
-
--- 7 for the first record and 8 to 11 for later ones, judged against the records before it
+-- 2 to 5 where reading refuses the bytes, of which there are 11; then 7 for the first record and 8 to 11 for later ones, judged against the records before it
 abbrev pub refusalOfPart : List Record → List ℕ → ℕ
 refusalOfPart [] part = afterReading part (refusalOfOpening (recordOfBytes part))
 refusalOfPart (b ∷ rs) part = afterReading part (refusalOfAdding (b ∷ rs) (recordOfBytes part))

@@ -1,5 +1,4 @@
 pub mod File
-pub mod Plain
-pub mod Taking
+pub mod Ending
 pub mod Singly
 pub mod Examples

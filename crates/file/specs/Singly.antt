@@ -1,10 +1,11 @@
 -- Document 01, "Change in size, file and listing": where a file is accepted, its outcome and marks are those read after opening with its first record and
--- adding the others singly; where 13 does not meet it, its first refusal among 2 to 11 is the one that reading, opening or adding gives, at that index.
+-- adding the others singly, and the lines of its visits are the responses that the additions answer, in order (demand 2); where 13 does not meet it, its
+-- first refusal among 2 to 11 is the one that reading, opening or adding gives, at that index.
 -- Proved in proofs/Singly.antt.
 -- Assumes nothing.
 use mathlib.Core.Path.{_≡_}
 use mathlib.Core.Bool.{false}
-use mathlib.Core.List.{List, [], _∷_}
+use mathlib.Core.List.{List, [], _∷_, _++_, map}
 use mathlib.Core.Logic.{_⊎_}
 use Prim.Native.Nat.{ℕ, suc, _-_, _/_}
 use lib.Dec.{eqb}
@@ -13,15 +14,19 @@ use Rattle.laws.specs.Choice.{pick}
 use Rattle.packing.specs.Layout.{AreBytes}
 use Rattle.codec.specs.Bytes.{recordLength}
 use Rattle.codec.specs.declared.ReadResult.{ReadResult}
-use Rattle.codec.specs.Reading.{readNumber, Reads}
+use Rattle.codec.specs.Reading.{readNumber, recordOfBytes, Reads}
 use Rattle.endpoints.specs.Values.{Outcome}
+use Rattle.endpoints.specs.StudyRecords.{onStudyDays}
+use Rattle.endpoints.specs.Lines.{VisitLine, linesInOrder}
 use Rattle.held.specs.declared.Subject.{Subject}
 use Rattle.opening.specs.declared.OpenAnswer.{OpenAnswer}
 use Rattle.opening.specs.Opening.{openNumber, Opened}
 use Rattle.placing.specs.declared.AddAnswer.{AddAnswer}
+use Rattle.placing.specs.Lines.{addResponses}
 use Rattle.placing.specs.Refusals.{addNumber}
+use Rattle.placing.specs.Promises.{Added}
 use Rattle.outcome.specs.declared.OutcomeAnswer.{OutcomeAnswer}
-use Rattle.outcome.specs.Promises.{Added, outcome, readingValues, Told}
+use Rattle.outcome.specs.Promises.{outcome, readingValues, Told}
 use Rattle.parts.specs.Parts.{badLength, partsOf, Cuts}
 use Rattle.file.specs.File.{refused, accepted, verdictOf}
 
@@ -29,16 +34,17 @@ use Rattle.file.specs.File.{refused, accepted, verdictOf}
 abbrev pub numberOf : ReadResult → ℕ → ℕ
 numberOf x n = pick (eqb (readNumber (x .answer)) 0) n (readNumber (x .answer))
 
--- each part is read and its record added, from a subject to another, with the numbers that the calls give. Of each call nothing is known but its promise.
-pub data Adds : Subject → List (List ℕ) → List ℕ → Subject → Type 0 where
-  none : {s : Subject} → Adds s [] [] s
-  adds : {s t u : Subject} {part : List ℕ} {x : ReadResult} {a : AddAnswer} {ps : List (List ℕ)} {ns : List ℕ} →
-      Reads part x → Added s (x .found) a t → Adds t ps ns u → Adds s (part ∷ ps) (numberOf x (addNumber a) ∷ ns) u
+-- each part is read and its record added, from a subject to another, with the numbers that the calls give and the responses that the additions answer, in
+-- order. Of each call nothing is known but its promise.
+pub data Adds : Subject → List (List ℕ) → List ℕ → List VisitLine → Subject → Type 0 where
+  none : {s : Subject} → Adds s [] [] [] s
+  adds : {s t u : Subject} {part : List ℕ} {x : ReadResult} {a : AddAnswer} {ps : List (List ℕ)} {ns : List ℕ} {ls : List VisitLine} →
+      Reads part x → Added s (x .found) a t → Adds t ps ns ls u → Adds s (part ∷ ps) (numberOf x (addNumber a) ∷ ns) (addResponses a ++ ls) u
 
 -- the first part is read and its record opens the subject
-pub data Singly : List (List ℕ) → List ℕ → Subject → Type 0 where
-  opens : {s t : Subject} {part : List ℕ} {x : ReadResult} {a : OpenAnswer} {ps : List (List ℕ)} {ns : List ℕ} →
-      Reads part x → Opened (x .found) a s → Adds s ps ns t → Singly (part ∷ ps) (numberOf x (openNumber a) ∷ ns) t
+pub data Singly : List (List ℕ) → List ℕ → List VisitLine → Subject → Type 0 where
+  opens : {s t : Subject} {part : List ℕ} {x : ReadResult} {a : OpenAnswer} {ps : List (List ℕ)} {ns : List ℕ} {ls : List VisitLine} →
+      Reads part x → Opened (x .found) a s → Adds s ps ns ls t → Singly (part ∷ ps) (numberOf x (openNumber a) ∷ ns) ls t
 
 -- the first number other than 0 and its index, of numbers from index k on
 pub data Stop : Type 0 where
@@ -52,8 +58,9 @@ firstRefusal k (n ∷ ns) = pick (eqb n 0) (firstRefusal (suc k) ns) (at n k)
 -- answers of the calls on a file's parts one by one, and of the reading behind them
 pub record Called (ps : List (List ℕ)) : Type 0 where
   pub numbers : List ℕ
+  pub responses : List VisitLine
   pub left : Subject
-  pub singly : Singly ps numbers left
+  pub singly : Singly ps numbers responses left
   pub told : OutcomeAnswer
   pub reads : Told left told
 
@@ -62,10 +69,12 @@ pub record AsSingly : Type 0 where
   pub cut : Cuts
   -- and the calls have answers
   pub called : (s : List ℕ) → AreBytes s → badLength (length s) ≡ false → Called (partsOf s)
-  pub accepts : (s : List ℕ) {ns : List ℕ} {t : Subject} {q : OutcomeAnswer} {o : Outcome} → verdictOf s ≡ accepted o → Singly (partsOf s) ns t → Told t q →
-      (firstRefusal 0 ns ≡ never) × (readingValues q ≡ outcome o)
-  pub refuses : (s : List ℕ) {ns : List ℕ} {t : Subject} {n k : ℕ} → badLength (length s) ≡ false → Singly (partsOf s) ns t → firstRefusal 0 ns ≡ at n k →
-      verdictOf s ≡ refused n k
+  -- an accepted file: no call refuses, the outcome is the one read, and the lines of its visits are the responses answered
+  pub accepts : (s : List ℕ) {ns : List ℕ} {ls : List VisitLine} {t : Subject} {q : OutcomeAnswer} {o : Outcome} →
+      verdictOf s ≡ accepted o → Singly (partsOf s) ns ls t → Told t q →
+      (firstRefusal 0 ns ≡ never) × (readingValues q ≡ outcome o) × (linesInOrder (onStudyDays (map recordOfBytes (partsOf s))) ≡ ls)
+  pub refuses : (s : List ℕ) {ns : List ℕ} {ls : List VisitLine} {t : Subject} {n k : ℕ} →
+      badLength (length s) ≡ false → Singly (partsOf s) ns ls t → firstRefusal 0 ns ≡ at n k → verdictOf s ≡ refused n k
   -- and where no call refuses, it is 14 with the index of the last record, or the outcome read
-  pub otherwise : (s : List ℕ) {ns : List ℕ} {t : Subject} {q : OutcomeAnswer} → badLength (length s) ≡ false → Singly (partsOf s) ns t → firstRefusal 0 ns ≡ never →
-      Told t q → (verdictOf s ≡ refused 14 (length s / recordLength - 1)) ⊎ ((o : Outcome) × (readingValues q ≡ outcome o) × (verdictOf s ≡ accepted o))
+  pub otherwise : (s : List ℕ) {ns : List ℕ} {ls : List VisitLine} {t : Subject} {q : OutcomeAnswer} →
+      badLength (length s) ≡ false → Singly (partsOf s) ns ls t → firstRefusal 0 ns ≡ never → Told t q → (verdictOf s ≡ refused 14 (length s / recordLength - 1)) ⊎ ((o : Outcome) × (readingValues q ≡ outcome o) × (verdictOf s ≡ accepted o))

@@ -9,7 +9,7 @@ use outcome::OutcomeAnswer;
 ghost use mathlib.Core.Path.{_≡_};
 ghost use Rattle.endpoints.specs.Values.{dayValue, pfsValues, durationValues};
 ghost use Rattle.file.specs.File.{isAfter, startsLate};
-ghost use Rattle.file.specs.Taking.{Ends};
+ghost use Rattle.file.specs.Ending.{Ends};
 
 fn is_after(first: MaybeDay, pfs: PfsResult) -> bool
     ensures { λ r. ⌜ r ≡ isAfter (dayValue first) (pfsValues pfs .day) ⌝ }
@@ -34,7 +34,8 @@ fn starts_late(duration: DurationAnswer, first: MaybeDay, pfs: PfsResult) -> boo
 pub fn end_file(s: Subject, last: usize) -> FileAnswer
     ensures { λ a. ⌜ Ends s last a ⌝ }
 {
-    let counted = s.counted;
+    let followup = s.followup;
+    let counted = followup.counted;
     let first = counted.first;
     match outcome::read_outcome(s) {
         OutcomeAnswer::OutOfRange => refused(12, last),

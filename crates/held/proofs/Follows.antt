@@ -5,6 +5,7 @@ use mathlib.Core.Bool.{Bool, true, false}
 use mathlib.Core.List.{List, [], _∷_}
 use Prim.Native.Nat.{ℕ, _+_, _≤_}
 use native.Mathlib.Omega.{arith}
+use lib.Dec.{leb}
 use borrow.Author.Tests.{le-leb, leb-true}
 use Rattle.laws.specs.Choice.{both, either, pick}
 use Rattle.laws.proofs.Tests.{either-with-false}
@@ -15,16 +16,16 @@ use Rattle.criteria.specs.Nadir.{leftBy}
 use Rattle.criteria.specs.Overall.{isPD, evaluable}
 use Rattle.endpoints.specs.declared.MaybeDay.{MaybeDay}
 use Rattle.endpoints.specs.declared.MaybeDay.the-variants as M
-use Rattle.endpoints.specs.Values.{Day, none, on, isRecorded, _orElse_, dayValue}
+use Rattle.endpoints.specs.Values.{Day, none, on, isRecorded, _orElse_, dayValue, bestWord}
 use Rattle.endpoints.specs.StudyRecords.{Baseline, disease}
 use Rattle.endpoints.specs.Lawful.{Past, latestDay, deathDay}
 use Rattle.endpoints.specs.Visits.{visitsOf, therapyRecorded, Judged, judged, firstPD, counting}
 use Rattle.endpoints.specs.Pfs.{beforeEvent, lastVisit, lastEvaluable}
-use Rattle.endpoints.specs.Best.{isCR, isResponse, mayStandBetween, confirmDays, farApart, completeBefore, confirmedCR, responseBefore, confirmedResponse, stable, firstResponse}
+use Rattle.endpoints.specs.Best.{isCR, isResponse, isStableOrBetter, mayStandBetween, stableFrom, confirmDays, farApart, completeBefore, confirmedCR, responseBefore, confirmedResponse, stable, bestOf, firstResponse}
 use Rattle.held.specs.declared.EventDays.{EventDays}
 use Rattle.held.specs.declared.CountingVisits.{CountingVisits}
 use Rattle.held.specs.declared.Subject.{Subject}
-use Rattle.held.specs.Visits.{firstOf, farAfter, eventAfter, countedAfter}
+use Rattle.held.specs.Visits.{firstOf, farAfter, eventAfter, bestFrom, betterOf, countedAfter}
 use Rattle.held.proofs.Ordered.{UpTo, Falling}
 
 -- a day as it is held
@@ -54,10 +55,7 @@ countedOf js =
     record {
       first = maybe (firstResponse js);
       start = maybe (crStart js);
-      cr = confirmedCR js;
-      pr = confirmedResponse js;
-      sd = stable js;
-      pd = isRecorded (firstPD js);
+      best = bestFrom (bestOf (confirmedCR js) (confirmedResponse js) (stable js) (isRecorded (firstPD js)));
     }
 
 -- ---- the days of the event
@@ -157,6 +155,39 @@ module _ (d : ℕ) where
   progression-follows (on s) true = refl
   progression-follows (on s) false = refl
 
+-- what the earlier visits show, or the next one with them, is the better of the two
+better-shown : (cr pr sd pd x y z w : Bool) →
+    betterOf (bestFrom (bestOf cr pr sd pd)) (bestFrom (bestOf x y z w)) ≡ bestFrom (bestOf (either x cr) (either y pr) (either z sd) (either w pd))
+better-shown true pr sd pd true y z w = refl
+better-shown true pr sd pd false y z w = refl
+better-shown false true sd pd true y z w = refl
+better-shown false true sd pd false true z w = refl
+better-shown false true sd pd false false true w = refl
+better-shown false true sd pd false false false true = refl
+better-shown false true sd pd false false false false = refl
+better-shown false false true pd true y z w = refl
+better-shown false false true pd false true z w = refl
+better-shown false false true pd false false true w = refl
+better-shown false false true pd false false false true = refl
+better-shown false false true pd false false false false = refl
+better-shown false false false true true y z w = refl
+better-shown false false false true false true z w = refl
+better-shown false false false true false false true w = refl
+better-shown false false false true false false false true = refl
+better-shown false false false true false false false false = refl
+better-shown false false false false true y z w = refl
+better-shown false false false false false true z w = refl
+better-shown false false false false false false true w = refl
+better-shown false false false false false false false true = refl
+better-shown false false false false false false false false = refl
+
+pub best-of-held : (cr pr sd pd : Bool) → bestWord (bestFrom (bestOf cr pr sd pd)) ≡ bestOf cr pr sd pd
+best-of-held true pr sd pd = refl
+best-of-held false true sd pd = refl
+best-of-held false false true pd = refl
+best-of-held false false false true = refl
+best-of-held false false false false = refl
+
 pub counted-follows : (j : Judged) (js : List Judged) → Falling js → countedAfter (countedOf js) (at (j .day)) (j .answer) ≡ countedOf (j ∷ js)
 unfolding countedAfter countedOf
 counted-follows j js s =
@@ -165,15 +196,19 @@ counted-follows j js s =
     let pd = progression-follows (j .day) (firstPD js) (isPD (j .answer)) in
     let complete = sym (complete-before (j .day) js s) in
     let response = sym (response-before (j .day) js s) in
+    let shown = better-shown (confirmedCR js) (confirmedResponse js) (stable js) (isRecorded (firstPD js)) (both (isCR (j .answer)) (farAfter (maybe (crStart js)) (j .day)))
+    (both (isResponse (j .answer)) (farAfter (maybe (firstResponse js)) (j .day))) (both (isStableOrBetter (j .answer)) (leb stableFrom (j .day))) (isPD (j .answer)) in
+    let follows : bestFrom
+    (bestOf (either (both (isCR (j .answer)) (farAfter (maybe (crStart js)) (j .day))) (confirmedCR js))
+    (either (both (isResponse (j .answer)) (farAfter (maybe (firstResponse js)) (j .day))) (confirmedResponse js)) (stable (j ∷ js))
+    (either (isPD (j .answer)) (isRecorded (firstPD js))))
+    ≡ bestFrom (bestOf (confirmedCR (j ∷ js)) (confirmedResponse (j ∷ js)) (stable (j ∷ js)) (isRecorded (firstPD (j ∷ js)))) =
     λ i.
-    record {
-      first = first i;
-      start = start i;
-      cr = either (both (isCR (j .answer)) (complete i)) (confirmedCR js);
-      pr = either (both (isResponse (j .answer)) (response i)) (confirmedResponse js);
-      sd = stable (j ∷ js);
-      pd = pd i;
-    }
+    bestFrom
+    (bestOf (either (both (isCR (j .answer)) (complete i)) (confirmedCR js)) (either (both (isResponse (j .answer)) (response i)) (confirmedResponse js))
+    (stable (j ∷ js)) (pd i)) in
+    let best = shown ∙ follows in
+    λ i. record { first = first i; start = start i; best = best i }
 
 -- ---- the subject
 
@@ -181,13 +216,14 @@ counted-follows j js s =
 unfoldable pub summary : Date → Baseline → Past → Subject
 summary randomisation b p =
     record {
-      randomisation = randomisation;
-      nontarget = b .nontarget;
-      baseline = disease b;
-      earlier = leftBy (disease b) (visitsOf p);
-      latest = at (latestDay p);
-      therapy = therapyRecorded p;
-      death = maybe (deathDay p);
-      event = eventOf (judged b p);
-      counted = countedOf (counting b p);
+      enrolment = record { randomisation = randomisation; nontarget = b .nontarget; baseline = disease b };
+      followup =
+          record {
+            earlier = leftBy (disease b) (visitsOf p);
+            latest = at (latestDay p);
+            therapy = therapyRecorded p;
+            death = maybe (deathDay p);
+            event = eventOf (judged b p);
+            counted = countedOf (counting b p);
+          };
     }

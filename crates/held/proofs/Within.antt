@@ -18,10 +18,12 @@ use Rattle.endpoints.specs.Values.{isRecorded, dayValue}
 use Rattle.endpoints.specs.Best.{isCR, isResponse, mayStandBetween}
 use Rattle.held.specs.declared.EventDays.{EventDays}
 use Rattle.held.specs.declared.CountingVisits.{CountingVisits}
+use Rattle.held.specs.declared.Enrolment.{Enrolment}
+use Rattle.held.specs.declared.FollowUp.{FollowUp}
 use Rattle.held.specs.declared.Subject.{Subject}
-use Rattle.held.specs.Range.{firstDay, dayInRange, maybeInRange, eventInRange, largestSum, inRange}
+use Rattle.held.specs.Range.{firstDay, dayInRange, maybeInRange, eventInRange, largestSum, enrolmentInRange, followUpInRange, inRange}
 use Rattle.held.specs.Visits.{firstOf, eventAfter, countedAfter}
-use Rattle.held.specs.Laws.{Within, AbsentOrWithin, EventWithin, CountedWithin, SubjectWithin, RangeLaws}
+use Rattle.held.specs.Laws.{Within, AbsentOrWithin, EventWithin, CountedWithin, EnrolmentWithin, FollowUpWithin, SubjectWithin, RangeLaws}
 
 -- ---- what 12 judges
 
@@ -39,51 +41,63 @@ maybe-in-range : (m : MaybeDay) → AbsentOrWithin m → maybeInRange m ≡ true
 maybe-in-range M.Absent w = refl
 maybe-in-range (M.On d) w = day-in-range (d .0) w
 
+pub enrolment-within : (e : Enrolment) → enrolmentInRange e ≡ true → EnrolmentWithin e
+unfolding enrolmentInRange
+enrolment-within e h =
+    let date = both-true (dateExists (e .randomisation)) _ h in
+    let count = both-true (leb (e .baseline .count) mostTargets) _ (date .1) in
+    record { randomisation = date .0; count = leb-true (e .baseline .count) mostTargets (count .0); sum = leb-true (e .baseline .sum) largestSum (count .1) }
+
+pub follow-up-within : (f : FollowUp) → followUpInRange f ≡ true → FollowUpWithin f
+unfolding followUpInRange
+follow-up-within f e =
+    let nadir = both-true (leb (f .earlier .nadir) largestSum) _ e in
+    let latest = both-true (dayInRange (f .latest .0)) _ (nadir .1) in
+    let death = both-true (maybeInRange (f .death)) _ (latest .1) in
+    let days = both-true (eventInRange (f .event)) _ (death .1) in
+    let previous = both-true (dayInRange (f .event .previous .0)) _ (days .0) in
+    let rest = both-true (maybeInRange (f .event .progression)) _ (previous .1) in
+    let counted = both-true (maybeInRange (f .counted .first)) _ (days .1) in
+    record {
+      nadir = leb-true (f .earlier .nadir) largestSum (nadir .0);
+      latest = within (f .latest .0) (latest .0);
+      death = absent-or-within (f .death) (death .0);
+      event =
+          record {
+            previous = within (f .event .previous .0) (previous .0);
+            progression = absent-or-within (f .event .progression) (rest .0);
+            evaluable = absent-or-within (f .event .evaluable) (rest .1);
+          };
+      counted = record { first = absent-or-within (f .counted .first) (counted .0); start = absent-or-within (f .counted .start) (counted .1) };
+    }
+
 pub subject-within : (s : Subject) → inRange s ≡ true → SubjectWithin s
 unfolding inRange
 subject-within s e =
-    let date = both-true (dateExists (s .randomisation)) _ e in
-    let count = both-true (leb (s .baseline .count) mostTargets) _ (date .1) in
-    let sum = both-true (leb (s .baseline .sum) largestSum) _ (count .1) in
-    let nadir = both-true (leb (s .earlier .nadir) largestSum) _ (sum .1) in
-    let latest = both-true (dayInRange (s .latest .0)) _ (nadir .1) in
-    let death = both-true (maybeInRange (s .death)) _ (latest .1) in
-    let days = both-true (eventInRange (s .event)) _ (death .1) in
-    let previous = both-true (dayInRange (s .event .previous .0)) _ (days .0) in
-    let rest = both-true (maybeInRange (s .event .progression)) _ (previous .1) in
-    let counted = both-true (maybeInRange (s .counted .first)) _ (days .1) in
-    record {
-      randomisation = date .0;
-      count = leb-true (s .baseline .count) mostTargets (count .0);
-      sum = leb-true (s .baseline .sum) largestSum (sum .0);
-      nadir = leb-true (s .earlier .nadir) largestSum (nadir .0);
-      latest = within (s .latest .0) (latest .0);
-      death = absent-or-within (s .death) (death .0);
-      event =
-          record {
-            previous = within (s .event .previous .0) (previous .0);
-            progression = absent-or-within (s .event .progression) (rest .0);
-            evaluable = absent-or-within (s .event .evaluable) (rest .1);
-          };
-      counted = record { first = absent-or-within (s .counted .first) (counted .0); start = absent-or-within (s .counted .start) (counted .1) };
-    }
+    let parts = both-true (enrolmentInRange (s .enrolment)) _ e in
+    record { enrolment = enrolment-within (s .enrolment) (parts .0); followup = follow-up-within (s .followup) (parts .1) }
+
+enrolment-in-range : (e : Enrolment) → EnrolmentWithin e → enrolmentInRange e ≡ true
+unfolding enrolmentInRange
+enrolment-in-range e w = rw (w .randomisation, le-leb (e .baseline .count) mostTargets (w .count), le-leb (e .baseline .sum) largestSum (w .sum))
+
+follow-up-in-range : (f : FollowUp) → FollowUpWithin f → followUpInRange f ≡ true
+unfolding followUpInRange
+follow-up-in-range f w =
+    rw (
+      le-leb (f .earlier .nadir) largestSum (w .nadir),
+      day-in-range (f .latest .0) (w .latest),
+      maybe-in-range (f .death) (w .death),
+      day-in-range (f .event .previous .0) (w .event .previous),
+      maybe-in-range (f .event .progression) (w .event .progression),
+      maybe-in-range (f .event .evaluable) (w .event .evaluable),
+      maybe-in-range (f .counted .first) (w .counted .first),
+      maybe-in-range (f .counted .start) (w .counted .start),
+    )
 
 pub in-range : (s : Subject) → SubjectWithin s → inRange s ≡ true
 unfolding inRange
-in-range s w =
-    rw (
-      w .randomisation,
-      le-leb (s .baseline .count) mostTargets (w .count),
-      le-leb (s .baseline .sum) largestSum (w .sum),
-      le-leb (s .earlier .nadir) largestSum (w .nadir),
-      day-in-range (s .latest .0) (w .latest),
-      maybe-in-range (s .death) (w .death),
-      day-in-range (s .event .previous .0) (w .event .previous),
-      maybe-in-range (s .event .progression) (w .event .progression),
-      maybe-in-range (s .event .evaluable) (w .event .evaluable),
-      maybe-in-range (s .counted .first) (w .counted .first),
-      maybe-in-range (s .counted .start) (w .counted .start),
-    )
+in-range s w = rw (enrolment-in-range (s .enrolment) (w .enrolment), follow-up-in-range (s .followup) (w .followup))
 
 pub range-laws : RangeLaws
 range-laws = record { exactly = λ s. (subject-within s, in-range s) }

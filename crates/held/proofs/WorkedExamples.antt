@@ -3,12 +3,12 @@
 -- Assumes nothing.
 use mathlib.Core.Path.{refl}
 use Rattle.dates.specs.Calendar.{leapYear, daysInMonth, dateExists}
-use Rattle.held.specs.Range.{inRange}
+use Rattle.held.specs.Range.{enrolmentInRange, followUpInRange, inRange}
 use Rattle.held.specs.Visits.{eventAfter, countedAfter}
-use Rattle.held.specs.Examples.{RangeAtTheEdges, EventsAfter, CountsAfter}
+use Rattle.held.specs.Examples.{RangeAtTheEdges, EventsAfter, CountsAfter, BestInOrder}
 
 pub range-at-the-edges : RangeAtTheEdges
-unfolding leapYear daysInMonth dateExists inRange
+unfolding leapYear daysInMonth dateExists enrolmentInRange followUpInRange inRange
 range-at-the-edges =
     record {
       opened = refl;
@@ -52,3 +52,6 @@ counts-after =
       neAfterTwoCR = refl;
       neAfterPD = refl;
     }
+
+pub best-in-order : BestInOrder
+best-in-order = record { words = refl; cr = refl; pr = refl; sd = refl; pd = refl; ne = refl }

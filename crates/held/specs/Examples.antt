@@ -11,10 +11,12 @@ use Rattle.dates.specs.Laws.{ymd}
 use Rattle.records.specs.Examples.{fivePlaces}
 use Rattle.criteria.specs.Words.{CR, PR, SD, PD, NE}
 use Rattle.criteria.specs.declared.BaselineDisease.{BaselineDisease}
+use Rattle.endpoints.specs.declared.BestResponse.{BestResponse}
+use Rattle.endpoints.specs.declared.BestResponse.the-variants as B
 use Rattle.endpoints.specs.declared.MaybeDay.{MaybeDay}
 use Rattle.endpoints.specs.declared.MaybeDay.the-variants as M
 use Rattle.held.specs.Range.{inRange}
-use Rattle.held.specs.Visits.{eventAfter, countedAfter}
+use Rattle.held.specs.Visits.{bestFrom, betterOf, eventAfter, countedAfter}
 use Rattle.held.specs.declared.EventDays.{EventDays}
 use Rattle.held.specs.declared.CountingVisits.{CountingVisits}
 use Rattle.held.specs.declared.Subject.{Subject}
@@ -29,16 +31,16 @@ onDay n = M.On (day n)
 abbrev pub events : MaybeDay → ℕ → MaybeDay → EventDays
 events progression previous evaluable = record { progression = progression; previous = day previous; evaluable = evaluable }
 
--- the first CR or PR, the start of the last run of CR, and which of CR, PR, SD and PD the counting visits show
-abbrev pub counts : MaybeDay → MaybeDay → Bool → Bool → Bool → Bool → CountingVisits
-counts first start cr pr sd pd = record { first = first; start = start; cr = cr; pr = pr; sd = sd; pd = pd }
+-- the first CR or PR, the start of the last run of CR, and the best response so far
+abbrev pub counts : MaybeDay → MaybeDay → BestResponse → CountingVisits
+counts first start best = record { first = first; start = start; best = best }
 
 -- no visit yet
 abbrev pub noEvents : EventDays
 noEvents = events M.Absent 1 M.Absent
 
 abbrev pub noCounts : CountingVisits
-noCounts = counts M.Absent M.Absent false false false false
+noCounts = counts M.Absent M.Absent B.NE
 
 -- what a baseline leaves, by assessed, target count and sum; the second target is a node
 abbrev pub disease : Bool → ℕ → ℕ → BaselineDisease
@@ -48,15 +50,8 @@ disease assessed count sum = record { assessed = assessed; count = count; nodes 
 abbrev pub subjectWith : Date → Bool → BaselineDisease → ℕ → ℕ → Bool → MaybeDay → EventDays → CountingVisits → Subject
 subjectWith randomisation nontarget baseline nadir latest therapy death event counted =
     record {
-      randomisation = randomisation;
-      nontarget = nontarget;
-      baseline = baseline;
-      earlier = record { nadir = nadir };
-      latest = day latest;
-      therapy = therapy;
-      death = death;
-      event = event;
-      counted = counted;
+      enrolment = record { randomisation = randomisation; nontarget = nontarget; baseline = baseline };
+      followup = record { earlier = record { nadir = nadir }; latest = day latest; therapy = therapy; death = death; event = event; counted = counted };
     }
 
 -- the subject of the printed example, by nadir, latest day, therapy, death, and what visits left
@@ -68,7 +63,7 @@ abbrev pub printedOpened : Subject
 printedOpened = printedWith 60 1 false M.Absent noEvents noCounts
 
 abbrev pub printedVisited : Subject
-printedVisited = printedWith 36 43 false M.Absent (events M.Absent 43 (onDay 43)) (counts (onDay 43) M.Absent false false true false)
+printedVisited = printedWith 36 43 false M.Absent (events M.Absent 43 (onDay 43)) (counts (onDay 43) M.Absent B.SD)
 
 -- after a baseline, by randomisation date, target count, sum and nadir
 abbrev pub afterBaseline : Date → ℕ → ℕ → ℕ → Subject
@@ -79,11 +74,11 @@ pub record RangeAtTheEdges : Type 0 where
   pub opened : inRange printedOpened ≡ true
   pub most : inRange
       (subjectWith (ymd 2020 1 1) true (disease true 5 2500) 2500 40177 false (onDay 40177) (events (onDay 40177) 40177 (onDay 40177))
-      (counts (onDay 40177) (onDay 40177) true true true true))
+      (counts (onDay 40177) (onDay 40177) B.CR))
       ≡ true
   pub least : inRange
       (subjectWith (ymd 2020 1 1) true (disease true 0 0) 0 1 false (onDay 1) (events (onDay 1) 1 (onDay 1))
-      (counts (onDay 1) (onDay 1) false false false false))
+      (counts (onDay 1) (onDay 1) B.NE))
       ≡ true
   pub noDate : inRange (afterBaseline (ymd 2021 2 29) 2 60 60) ≡ false
   pub count6 : inRange (afterBaseline (ymd 2020 1 1) 6 60 60) ≡ false
@@ -98,9 +93,9 @@ pub record RangeAtTheEdges : Type 0 where
       ≡ false ∷ false ∷ []
   pub evaluable : map (λ (d : ℕ). inRange (printedWith 60 1 false M.Absent (events M.Absent 1 (onDay d)) noCounts)) (0 ∷ 40178 ∷ [])
       ≡ false ∷ false ∷ []
-  pub first : map (λ (d : ℕ). inRange (printedWith 60 1 false M.Absent noEvents (counts (onDay d) M.Absent false false false false))) (0 ∷ 40178 ∷ [])
+  pub first : map (λ (d : ℕ). inRange (printedWith 60 1 false M.Absent noEvents (counts (onDay d) M.Absent B.NE))) (0 ∷ 40178 ∷ [])
       ≡ false ∷ false ∷ []
-  pub start : map (λ (d : ℕ). inRange (printedWith 60 1 false M.Absent noEvents (counts M.Absent (onDay d) false false false false))) (0 ∷ 40178 ∷ [])
+  pub start : map (λ (d : ℕ). inRange (printedWith 60 1 false M.Absent noEvents (counts M.Absent (onDay d) B.NE))) (0 ∷ 40178 ∷ [])
       ≡ false ∷ false ∷ []
 
 -- SD 43, NE 85, PD 127, SD 169 or PD 169: v moves with each visit before the progression, which is the first PD, the last evaluable visit with SD
@@ -113,27 +108,39 @@ pub record EventsAfter : Type 0 where
 
 -- behind a first CR on day 43
 abbrev pub afterCR : CountingVisits
-afterCR = counts (onDay 43) (onDay 43) false false true false
+afterCR = counts (onDay 43) (onDay 43) B.SD
 
 -- one counting visit more: 28 days or more apart, with only CR or NE between two CR visits; SD from day 36 on
 pub record CountsAfter : Type 0 where
   pub cr43 : countedAfter noCounts (day 43) CR ≡ afterCR
-  pub pr35 : countedAfter noCounts (day 35) PR ≡ counts (onDay 35) M.Absent false false false false
+  pub pr35 : countedAfter noCounts (day 35) PR ≡ counts (onDay 35) M.Absent B.NE
   pub sd35 : countedAfter noCounts (day 35) SD ≡ noCounts
-  pub sd36 : countedAfter noCounts (day 36) SD ≡ counts M.Absent M.Absent false false true false
-  pub pd43 : countedAfter noCounts (day 43) PD ≡ counts M.Absent M.Absent false false false true
+  pub sd36 : countedAfter noCounts (day 36) SD ≡ counts M.Absent M.Absent B.SD
+  pub pd43 : countedAfter noCounts (day 43) PD ≡ counts M.Absent M.Absent B.PD
   pub cr70 : countedAfter afterCR (day 70) CR ≡ afterCR
-  pub cr71 : countedAfter afterCR (day 71) CR ≡ counts (onDay 43) (onDay 43) true true true false
-  pub pr71 : countedAfter afterCR (day 71) PR ≡ counts (onDay 43) M.Absent false true true false
+  pub cr71 : countedAfter afterCR (day 71) CR ≡ counts (onDay 43) (onDay 43) B.CR
+  pub pr71 : countedAfter afterCR (day 71) PR ≡ counts (onDay 43) M.Absent B.PR
   pub ne71 : countedAfter afterCR (day 71) NE ≡ afterCR
-  pub sd71 : countedAfter afterCR (day 71) SD ≡ counts (onDay 43) M.Absent false false true false
-  pub pd71 : countedAfter afterCR (day 71) PD ≡ counts (onDay 43) M.Absent false false true true
+  pub sd71 : countedAfter afterCR (day 71) SD ≡ counts (onDay 43) M.Absent B.SD
+  pub pd71 : countedAfter afterCR (day 71) PD ≡ counts (onDay 43) M.Absent B.SD
   -- behind a PR of day 43, a CR of day 71 starts a run of its own
-  pub crAfterPR : countedAfter (counts (onDay 43) M.Absent false false true false) (day 71) CR
-      ≡ counts (onDay 43) (onDay 71) false true true false
+  pub crAfterPR : countedAfter (counts (onDay 43) M.Absent B.SD) (day 71) CR
+      ≡ counts (onDay 43) (onDay 71) B.PR
   -- an NE leaves everything as it is: behind PR 43; PR 43 and CR 71; CR 43 and CR 71; PD 43
-  pub neAfterPR : countedAfter (counts (onDay 43) M.Absent false false true false) (day 99) NE ≡ counts (onDay 43) M.Absent false false true false
-  pub neAfterPRAndCR : countedAfter (counts (onDay 43) (onDay 71) false true true false) (day 99) NE
-      ≡ counts (onDay 43) (onDay 71) false true true false
-  pub neAfterTwoCR : countedAfter (counts (onDay 43) (onDay 43) true true true false) (day 99) NE ≡ counts (onDay 43) (onDay 43) true true true false
-  pub neAfterPD : countedAfter (counts M.Absent M.Absent false false false true) (day 99) NE ≡ counts M.Absent M.Absent false false false true
+  pub neAfterPR : countedAfter (counts (onDay 43) M.Absent B.SD) (day 99) NE ≡ counts (onDay 43) M.Absent B.SD
+  pub neAfterPRAndCR : countedAfter (counts (onDay 43) (onDay 71) B.PR) (day 99) NE
+      ≡ counts (onDay 43) (onDay 71) B.PR
+  pub neAfterTwoCR : countedAfter (counts (onDay 43) (onDay 43) B.CR) (day 99) NE ≡ counts (onDay 43) (onDay 43) B.CR
+  pub neAfterPD : countedAfter (counts M.Absent M.Absent B.PD) (day 99) NE ≡ counts M.Absent M.Absent B.PD
+
+-- the order of document 01: CR, PR, SD, PD, NE; the better of each with each, rows and columns in this order
+abbrev pub responses : List BestResponse
+responses = B.CR ∷ B.PR ∷ B.SD ∷ B.PD ∷ B.NE ∷ []
+
+pub record BestInOrder : Type 0 where
+  pub words : map bestFrom (CR ∷ PR ∷ SD ∷ PD ∷ NE ∷ []) ≡ responses
+  pub cr : map (betterOf B.CR) responses ≡ B.CR ∷ B.CR ∷ B.CR ∷ B.CR ∷ B.CR ∷ []
+  pub pr : map (betterOf B.PR) responses ≡ B.CR ∷ B.PR ∷ B.PR ∷ B.PR ∷ B.PR ∷ []
+  pub sd : map (betterOf B.SD) responses ≡ B.CR ∷ B.PR ∷ B.SD ∷ B.SD ∷ B.SD ∷ []
+  pub pd : map (betterOf B.PD) responses ≡ B.CR ∷ B.PR ∷ B.SD ∷ B.PD ∷ B.PD ∷ []
+  pub ne : map (betterOf B.NE) responses ≡ responses

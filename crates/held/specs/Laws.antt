@@ -9,6 +9,8 @@ use Rattle.endpoints.specs.declared.MaybeDay.{MaybeDay}
 use Rattle.endpoints.specs.declared.MaybeDay.the-variants as M
 use Rattle.held.specs.declared.EventDays.{EventDays}
 use Rattle.held.specs.declared.CountingVisits.{CountingVisits}
+use Rattle.held.specs.declared.Enrolment.{Enrolment}
+use Rattle.held.specs.declared.FollowUp.{FollowUp}
 use Rattle.held.specs.declared.Subject.{Subject}
 use Rattle.held.specs.Range.{inRange}
 
@@ -28,16 +30,22 @@ pub record CountedWithin (c : CountingVisits) : Type 0 where
   pub first : AbsentOrWithin (c .first)
   pub start : AbsentOrWithin (c .start)
 
+pub record EnrolmentWithin (e : Enrolment) : Type 0 where
+  pub randomisation : dateExists (e .randomisation) ≡ true
+  pub count : e .baseline .count ≤ 5
+  pub sum : e .baseline .sum ≤ 2500
+
+pub record FollowUpWithin (f : FollowUp) : Type 0 where
+  pub nadir : f .earlier .nadir ≤ 2500
+  pub latest : Within (f .latest .0)
+  pub death : AbsentOrWithin (f .death)
+  pub event : EventWithin (f .event)
+  pub counted : CountedWithin (f .counted)
+
 -- every day from 1 to 40,177, every sum at most 2,500, at most 5 targets, and a randomisation date that 3 does not meet
 pub record SubjectWithin (s : Subject) : Type 0 where
-  pub randomisation : dateExists (s .randomisation) ≡ true
-  pub count : s .baseline .count ≤ 5
-  pub sum : s .baseline .sum ≤ 2500
-  pub nadir : s .earlier .nadir ≤ 2500
-  pub latest : Within (s .latest .0)
-  pub death : AbsentOrWithin (s .death)
-  pub event : EventWithin (s .event)
-  pub counted : CountedWithin (s .counted)
+  pub enrolment : EnrolmentWithin (s .enrolment)
+  pub followup : FollowUpWithin (s .followup)
 
 pub record RangeLaws : Type 0 where
   pub exactly : (s : Subject) → (inRange s ≡ true) ↔ SubjectWithin s

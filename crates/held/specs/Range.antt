@@ -10,6 +10,8 @@ use Rattle.endpoints.specs.declared.MaybeDay.{MaybeDay}
 use Rattle.endpoints.specs.declared.MaybeDay.the-variants as M
 use Rattle.held.specs.declared.EventDays.{EventDays}
 use Rattle.held.specs.declared.CountingVisits.{CountingVisits}
+use Rattle.held.specs.declared.Enrolment.{Enrolment}
+use Rattle.held.specs.declared.FollowUp.{FollowUp}
 use Rattle.held.specs.declared.Subject.{Subject}
 
 abbrev pub firstDay : ℕ
@@ -34,14 +36,18 @@ eventInRange e = both (dayInRange (e .previous .0)) (both (maybeInRange (e .prog
 abbrev pub countedInRange : CountingVisits → Bool
 countedInRange c = both (maybeInRange (c .first)) (maybeInRange (c .start))
 
--- the randomisation date, the target count, the sums and the days
+-- the randomisation date, the target count and the baseline sum
+unfoldable pub enrolmentInRange : Enrolment → Bool
+enrolmentInRange e = both (dateExists (e .randomisation)) (both (leb (e .baseline .count) mostTargets) (leb (e .baseline .sum) largestSum))
+
+-- the nadir and the days
+unfoldable pub followUpInRange : FollowUp → Bool
+followUpInRange f =
+    both (leb (f .earlier .nadir) largestSum)
+    (both (dayInRange (f .latest .0))
+    (both (maybeInRange (f .death))
+    (both (eventInRange (f .event))
+    (countedInRange (f .counted)))))
+
 unfoldable pub inRange : Subject → Bool
-inRange s =
-    both (dateExists (s .randomisation))
-    (both (leb (s .baseline .count) mostTargets)
-    (both (leb (s .baseline .sum) largestSum)
-    (both (leb (s .earlier .nadir) largestSum)
-    (both (dayInRange (s .latest .0))
-    (both (maybeInRange (s .death))
-    (both (eventInRange (s .event))
-    (countedInRange (s .counted))))))))
+inRange s = both (enrolmentInRange (s .enrolment)) (followUpInRange (s .followup))

@@ -1,16 +1,18 @@
-// What is held of one subject between calls, what one visit more makes of its parts, and whether it is in range (document 01, "Outcome" and
+// What is held of one subject between calls, what one visit more makes of its parts, and whether they are in range (document 01, "Outcome" and
 // "Where a call stops", 12). That these parts follow the list of the visits is proved here.
 use criteria::BaselineDisease;
 use criteria::Earlier;
 use dates::Date;
 use dates::StudyDay;
+use endpoints::BestResponse;
 use endpoints::MaybeDay;
 
 mod days; // days.rt: days that may be absent
 mod range; // range.rt: what 12 judges
 mod visits; // visits.rt: the days and the best response after one visit more
 
-pub use range::in_range;
+pub use range::enrolment_in_range;
+pub use range::followup_in_range;
 pub use visits::counted_after;
 pub use visits::event_after;
 
@@ -29,21 +31,20 @@ pub struct CountingVisits {
     pub first: MaybeDay,
     // The first CR since which every one was CR or NE.
     pub start: MaybeDay,
-    // Two CR visits far enough apart with only CR or NE between.
-    pub cr: bool,
-    // Two visits of CR or PR far enough apart.
-    pub pr: bool,
-    // A CR, PR or SD late enough.
-    pub sd: bool,
-    // Progression.
-    pub pd: bool,
+    // The best response that they show so far.
+    pub best: BestResponse,
 }
 
-pub struct Subject {
+// What an opening makes and no addition moves.
+pub struct Enrolment {
     pub randomisation: Date,
     // Has non-target lesions.
     pub nontarget: bool,
     pub baseline: BaselineDisease,
+}
+
+// What additions move.
+pub struct FollowUp {
     pub earlier: Earlier,
     // The day of the last record, or day 1.
     pub latest: StudyDay,
@@ -51,4 +52,9 @@ pub struct Subject {
     pub death: MaybeDay,
     pub event: EventDays,
     pub counted: CountingVisits,
+}
+
+pub struct Subject {
+    pub enrolment: Enrolment,
+    pub followup: FollowUp,
 }

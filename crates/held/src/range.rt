@@ -1,22 +1,27 @@
-// What 12 judges: whether a held subject is in range.
+// What 12 judges: whether the two parts of a held subject are in range.
 use super::CountingVisits;
+use super::Enrolment;
 use super::EventDays;
-use super::Subject;
+use super::FollowUp;
 use dates::StudyDay;
 use endpoints::MaybeDay;
+use records::LARGEST_SIZE;
+use records::MOST_TARGETS;
 ghost use mathlib.Core.Path.{_≡_};
-ghost use Rattle.held.specs.Range.{dayInRange, maybeInRange, eventInRange, countedInRange, inRange};
+ghost use Rattle.held.specs.Range.{dayInRange, maybeInRange, eventInRange, countedInRange, enrolmentInRange, followUpInRange};
 
+// The randomisation's day is the first.
+const FIRST_DAY: u32 = 1;
+
+// The day number of the last date.
 const LAST_DAY: u32 = 40177;
 
-const LARGEST_SUM: u32 = 2500;
-
-const MOST_TARGETS: u8 = 5;
+const LARGEST_SUM: u32 = MOST_TARGETS as u32 * LARGEST_SIZE as u32;
 
 fn day_in_range(day: StudyDay) -> bool
     ensures { λ r. ⌜ r ≡ dayInRange (day .0) ⌝ }
 {
-    (1 <= day.0) & (day.0 <= LAST_DAY)
+    FIRST_DAY <= day.0 && day.0 <= LAST_DAY
 }
 
 fn maybe_in_range(day: MaybeDay) -> bool
@@ -33,7 +38,7 @@ fn event_in_range(event: EventDays) -> bool
 {
     let progression = event.progression;
     let evaluable = event.evaluable;
-    day_in_range(event.previous) & (maybe_in_range(progression) & maybe_in_range(evaluable))
+    day_in_range(event.previous) && (maybe_in_range(progression) && maybe_in_range(evaluable))
 }
 
 fn counted_in_range(counted: CountingVisits) -> bool
@@ -41,20 +46,23 @@ fn counted_in_range(counted: CountingVisits) -> bool
 {
     let first = counted.first;
     let start = counted.start;
-    maybe_in_range(first) & maybe_in_range(start)
+    maybe_in_range(first) && maybe_in_range(start)
 }
 
-pub fn in_range(s: Subject) -> bool
-    ensures { λ r. ⌜ r ≡ inRange s ⌝ }
+pub fn enrolment_in_range(e: Enrolment) -> bool
+    ensures { λ r. ⌜ r ≡ enrolmentInRange e ⌝ }
 {
-    let death = s.death;
-    let event = s.event;
-    let counted = s.counted;
-    dates::date_exists(s.randomisation)
-        & ((s.baseline.count <= MOST_TARGETS)
-            & ((s.baseline.sum <= LARGEST_SUM)
-                & ((s.earlier.nadir <= LARGEST_SUM)
-                    & (day_in_range(s.latest)
-                        & (maybe_in_range(death)
-                            & (event_in_range(event) & counted_in_range(counted)))))))
+    dates::date_exists(e.randomisation)
+        && (e.baseline.count <= MOST_TARGETS && e.baseline.sum <= LARGEST_SUM)
+}
+
+pub fn followup_in_range(f: FollowUp) -> bool
+    ensures { λ r. ⌜ r ≡ followUpInRange f ⌝ }
+{
+    let death = f.death;
+    let event = f.event;
+    let counted = f.counted;
+    f.earlier.nadir <= LARGEST_SUM
+        && (day_in_range(f.latest)
+            && (maybe_in_range(death) && (event_in_range(event) && counted_in_range(counted))))
 }

@@ -5,11 +5,16 @@ use super::days::far_after;
 use super::days::first_of;
 use criteria::Overall;
 use dates::StudyDay;
+use endpoints::BestResponse;
 use endpoints::MaybeDay;
+use results::best_of;
 use results::is_recorded;
 ghost use mathlib.Core.Path.{_≡_};
 ghost use Rattle.criteria.specs.Words.{overallWord};
-ghost use Rattle.held.specs.Visits.{evaluableOn, eventAfter, countedAfter};
+ghost use Rattle.laws.specs.Choice.{pick};
+ghost use Rattle.endpoints.specs.declared.MaybeDay.the-variants as M;
+ghost use Rattle.endpoints.specs.Best.{isCR, isResponse, mayStandBetween};
+ghost use Rattle.held.specs.Visits.{firstOf, evaluableOn, eventAfter, bestFrom, betterOf, shownBy, countedAfter};
 
 // The day from which SD is a best response.
 const STABLE_FROM: u32 = 36;
@@ -51,44 +56,87 @@ pub fn event_after(event: EventDays, day: StudyDay, answer: Overall) -> EventDay
     }
 }
 
+// The first of two in the order of document 01.
+fn better_of(a: BestResponse, b: BestResponse) -> BestResponse
+    ensures { λ r. ⌜ r ≡ betterOf a b ⌝ }
+{
+    match a {
+        BestResponse::CR => BestResponse::CR,
+        BestResponse::PR => match b {
+            BestResponse::CR => BestResponse::CR,
+            BestResponse::PR => BestResponse::PR,
+            BestResponse::SD => BestResponse::PR,
+            BestResponse::PD => BestResponse::PR,
+            BestResponse::NE => BestResponse::PR,
+        },
+        BestResponse::SD => match b {
+            BestResponse::CR => BestResponse::CR,
+            BestResponse::PR => BestResponse::PR,
+            BestResponse::SD => BestResponse::SD,
+            BestResponse::PD => BestResponse::SD,
+            BestResponse::NE => BestResponse::SD,
+        },
+        BestResponse::PD => match b {
+            BestResponse::CR => BestResponse::CR,
+            BestResponse::PR => BestResponse::PR,
+            BestResponse::SD => BestResponse::SD,
+            BestResponse::PD => BestResponse::PD,
+            BestResponse::NE => BestResponse::PD,
+        },
+        BestResponse::NE => b,
+    }
+}
+
+// What a counting visit shows with those before it.
+fn shown_by(c: CountingVisits, day: StudyDay, answer: Overall) -> BestResponse
+    ensures { λ r. ⌜ r ≡ bestFrom (shownBy c day (overallWord answer)) ⌝ }
+{
+    let first = c.first;
+    let start = c.start;
+    let late = STABLE_FROM <= day.0;
+    match answer {
+        Overall::CR => best_of(far_after(start, day), far_after(first, day), late, false),
+        Overall::PR => best_of(false, far_after(first, day), late, false),
+        Overall::SD => best_of(false, false, late, false),
+        Overall::PD => BestResponse::PD,
+        Overall::NE => BestResponse::NE,
+    }
+}
+
+fn first_after(first: MaybeDay, day: StudyDay, answer: Overall) -> MaybeDay
+    ensures { λ r. ⌜ r ≡ pick (isResponse (overallWord answer)) (firstOf first day) first ⌝ }
+{
+    match answer {
+        Overall::CR => first_of(first, day),
+        Overall::PR => first_of(first, day),
+        Overall::SD => first,
+        Overall::PD => first,
+        Overall::NE => first,
+    }
+}
+
+fn start_after(start: MaybeDay, day: StudyDay, answer: Overall) -> MaybeDay
+    ensures { λ r. ⌜ r ≡ pick (isCR (overallWord answer)) (firstOf start day) (pick (mayStandBetween (overallWord answer)) start M.Absent) ⌝ }
+{
+    match answer {
+        Overall::CR => first_of(start, day),
+        Overall::PR => MaybeDay::Absent,
+        Overall::SD => MaybeDay::Absent,
+        Overall::PD => MaybeDay::Absent,
+        Overall::NE => start,
+    }
+}
+
 pub fn counted_after(c: CountingVisits, day: StudyDay, answer: Overall) -> CountingVisits
     ensures { λ r. ⌜ r ≡ countedAfter c day (overallWord answer) ⌝ }
 {
     let first = c.first;
     let start = c.start;
-    match answer {
-        Overall::CR => CountingVisits {
-            first: first_of(first, day),
-            start: first_of(start, day),
-            cr: far_after(start, day) | c.cr,
-            pr: far_after(first, day) | c.pr,
-            sd: (STABLE_FROM <= day.0) | c.sd,
-            pd: c.pd,
-        },
-        Overall::PR => CountingVisits {
-            first: first_of(first, day),
-            start: MaybeDay::Absent,
-            cr: c.cr,
-            pr: far_after(first, day) | c.pr,
-            sd: (STABLE_FROM <= day.0) | c.sd,
-            pd: c.pd,
-        },
-        Overall::SD => CountingVisits {
-            first: first,
-            start: MaybeDay::Absent,
-            cr: c.cr,
-            pr: c.pr,
-            sd: (STABLE_FROM <= day.0) | c.sd,
-            pd: c.pd,
-        },
-        Overall::PD => CountingVisits {
-            first: first,
-            start: MaybeDay::Absent,
-            cr: c.cr,
-            pr: c.pr,
-            sd: c.sd,
-            pd: true,
-        },
-        Overall::NE => c,
+    let best = c.best;
+    let shown = shown_by(c, day, answer);
+    CountingVisits {
+        first: first_after(first, day, answer),
+        start: start_after(start, day, answer),
+        best: better_of(best, shown),
     }
 }

@@ -6,6 +6,7 @@ use Prim.Native.Nat.{ℕ, suc, _+_, _-_, _/_, _≤_, _<_}
 use native.Mathlib.Omega.{arith}
 use lib.ListN.{length, take}
 use Rattle.records.specs.declared.Record.{Record}
+use Rattle.codec.specs.Bytes.{recordLength}
 use Rattle.codec.specs.Reading.{recordOfBytes}
 use Rattle.endpoints.specs.Adding.{Call}
 use Rattle.held.specs.declared.Subject.{Subject}
@@ -14,7 +15,8 @@ use Rattle.placing.specs.declared.AddAnswer.{AddAnswer}
 use Rattle.opening.specs.declared.OpenAnswer.{OpenAnswer}
 use Rattle.outcome.specs.declared.OutcomeAnswer.{OutcomeAnswer}
 use Rattle.outcome.specs.declared.OutcomeAnswer.the-variants as A
-use Rattle.outcome.specs.Promises.{Added, Told}
+use Rattle.placing.specs.Promises.{Added}
+use Rattle.outcome.specs.Promises.{Told}
 use Rattle.outcome.specs.Demand3.{Reply, Calls, none, adds, reads}
 use Rattle.outcome.proofs.Within.{calls-in-range}
 use Rattle.outcome.proofs.Demand.{demand3}
@@ -58,11 +60,11 @@ blank-stays e none = e
 blank-stays e (adds {t = t} {r = r} {a = a} w c) = blank-stays (calls-in-range .addedToBlank (subst (λ (x : Subject). Added x r a t) e w) .1) c
 blank-stays e (reads w c) = blank-stays e c
 
-pub empty : (l : List ℕ) → length l / 11 ≡ 0 → Replayed (recordsIn l) A.OutOfRange
+pub empty : (l : List ℕ) → length l / recordLength ≡ 0 → Replayed (recordsIn l) A.OutOfRange
 empty l e = rw e
 
-pub replayed : (l : List ℕ) (b : Record) (a : OpenAnswer) (s t : Subject) (o : OutcomeAnswer) → (length l / 11 ≡ 0 → ⊥) → b ≡ recordOfBytes (take 11 l) →
-    Opened b a s → Reached s (from l (length l / 11) 1) t → Told t o → Replayed (recordsIn l) o
+pub replayed : (l : List ℕ) (b : Record) (a : OpenAnswer) (s t : Subject) (o : OutcomeAnswer) → (length l / recordLength ≡ 0 → ⊥) → b ≡ recordOfBytes (take recordLength l) →
+    Opened b a s → Reached s (from l (length l / recordLength) 1) t → Told t o → Replayed (recordsIn l) o
 replayed l b a s t o h be w c q =
     subst (λ (rs : List Record). Replayed rs o) whole (
       λ accepts. demand3 .holds w (w .answer ∙ accepts) (c .calls) q .claim,
@@ -71,7 +73,7 @@ replayed l b a s t o h be w c q =
           calls-in-range .toldOfBlank (subst (λ (x : Subject). Told x o) blank-left q),
     )
   where
-    whole : b ∷ from l (length l / 11) 1 ≡ recordsIn l
+    whole : b ∷ from l (length l / recordLength) 1 ≡ recordsIn l
     whole =
-        let e : length l / 11 ≡ suc (length l / 11 - 1) = omega arith in
-        ap (λ (x : Record). x ∷ from l (length l / 11) 1) be ∙ sym (ap (λ (n : ℕ). map recordOfBytes (parts n l)) e)
+        let e : length l / recordLength ≡ suc (length l / recordLength - 1) = omega arith in
+        ap (λ (x : Record). x ∷ from l (length l / recordLength) 1) be ∙ sym (ap (λ (n : ℕ). map recordOfBytes (parts n l)) e)

@@ -20,13 +20,7 @@ pub(crate) fn number(n: u64) {
 // Behind an A, which starts the numbers of a history.
 pub(crate) fn opened(answer: OpenAnswer) {
     text(b"A ");
-    match answer {
-        OpenAnswer::Done => text(b"0"),
-        OpenAnswer::NoSuchDate => text(b"3"),
-        OpenAnswer::OutsideLimits => text(b"4"),
-        OpenAnswer::NotZero => text(b"5"),
-        OpenAnswer::NotBaseline => text(b"7"),
-    }
+    number(opening::open_number(answer) as u64);
 }
 
 // Behind a space.

@@ -47,10 +47,3 @@ not-leb m n = go (leb m n) refl
 
 pub not-ltb : (m n : ℕ) → not (ltb m n) ≡ leb n m
 not-ltb m n = sym (ap not (not-leb n m)) ∙ Bool·not-not (leb n m)
-
-pub zero-eqb : (n : ℕ) → eqb n 0 ≡ not (ltb 0 n)
-zero-eqb n = go (ltb 0 n) refl
-  where
-    go : (x : Bool) → ltb 0 n ≡ x → eqb n 0 ≡ not x
-    go true q = let l = ltb-true 0 n q in ne-eqb n 0 (λ e. let w : ⊥ = omega arith in w)
-    go false q = let l = ltb-false 0 n q in eq-eqb n 0 (omega arith)

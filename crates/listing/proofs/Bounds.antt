@@ -11,10 +11,10 @@ use Rattle.endpoints.specs.declared.DurationAnswer.the-variants as D
 use Rattle.endpoints.specs.declared.DurationResult.{DurationResult}
 use Rattle.endpoints.specs.Values.{durationValues}
 use Rattle.held.specs.Laws.{Within}
-use Rattle.placing.specs.declared.JudgedVisit.{JudgedVisit}
-use Rattle.placing.specs.declared.MaybeVisit.{MaybeVisit}
-use Rattle.placing.specs.declared.MaybeVisit.the-variants as J
-use Rattle.placing.specs.Lines.{judgedValues, visitValues}
+use Rattle.placing.specs.declared.AddAnswer.{AddAnswer}
+use Rattle.placing.specs.declared.AddAnswer.the-variants as A
+use Rattle.placing.specs.declared.VisitResponse.{VisitResponse}
+use Rattle.placing.specs.Lines.{responseValues, addResponses}
 use Rattle.outcome.specs.Laws.{DurationWithin}
 use Rattle.listing.specs.Writing.{Writable, AllWritable}
 
@@ -27,5 +27,5 @@ increase-small a n q h = rw q at h
 pub decrease-small : (a : ChangeAnswer) (n : ℕ) → a ≡ C.Decrease n → changeValues a .tenths < 100000 → n < 100000
 decrease-small a n q h = rw q at h
 
-pub visit-writable : (v : MaybeVisit) (j : JudgedVisit) → v ≡ J.Judged j → AllWritable (visitValues v) → Writable (judgedValues j)
-visit-writable v j q h = let w : Writable (judgedValues j) × Unit {0} = rw q at h in w .0
+pub visit-writable : (a : AddAnswer) (v : VisitResponse) → a ≡ A.Judged v → AllWritable (addResponses a) → Writable (responseValues v)
+visit-writable a v q h = let w : Writable (responseValues v) × Unit {0} = rw q at h in w .0

@@ -1,39 +1,33 @@
--- The lines of the records taken so far: one record more brings its own, and they are short.
+-- The responses that an addition to the records taken so far answers are short enough to be written.
 -- Assumes nothing.
 use mathlib.Core.Path.{_≡_, sym, _∙_, ap, subst}
-use mathlib.Core.Bool.{true}
-use mathlib.Core.List.{List, [], _∷_, _++_, append-nil}
+use mathlib.Core.List.{List, [], _∷_, append-nil}
 use Prim.Native.Nat.{ℕ, _≤_, _<_}
 use native.Mathlib.Omega.{arith}
-use lib.Dec.{eqb}
-use borrow.Author.Tests.{eq-eqb}
+use borrow.Author.Tests.{eqb-true}
 use lib.ListN.{length}
 use Rattle.dates.specs.declared.Date.{Date}
 use Rattle.records.specs.declared.Entry.{Entry}
 use Rattle.records.specs.declared.Entry.the-variants as E
 use Rattle.records.specs.declared.Record.{Record}
+use Rattle.records.specs.Form.{Five}
 use Rattle.records.specs.Refusals.{refusalOf}
-use Rattle.codec.specs.Reading.{recordOfBytes}
-use Rattle.codec.proofs.Found.{found-five}
-use Rattle.endpoints.specs.StudyRecords.{Baseline, StudyRecord, dayOf, entryOnStudyDay, onStudyDays}
+use Rattle.endpoints.specs.StudyRecords.{Baseline, StudyRecord, dayOf, entryOnStudyDay}
 use Rattle.endpoints.specs.Lawful.{Past}
-use Rattle.endpoints.specs.Lines.{VisitLine, linesOf, visitLines}
+use Rattle.endpoints.specs.Lines.{linesOf}
 use Rattle.endpoints.specs.Adding.{refusalBehind, refusalOfAdding}
 use Rattle.endpoints.proofs.Calls.{none-of-both}
 use Rattle.endpoints.proofs.Refusals.{one-more, own-passed}
 use Rattle.held.specs.declared.Subject.{Subject}
-use Rattle.held.proofs.Follows.{summary}
-use Rattle.placing.specs.declared.MaybeVisit.{MaybeVisit}
-use Rattle.placing.specs.declared.MaybeVisit.the-variants as J
-use Rattle.placing.specs.Lines.{judgedValues, visitValues}
-use Rattle.placing.proofs.Follows.{lines-follow}
+use Rattle.placing.specs.declared.AddAnswer.{AddAnswer}
+use Rattle.placing.specs.declared.AddAnswer.the-variants as A
+use Rattle.placing.specs.Lines.{responseValues, addResponses}
+use Rattle.placing.specs.Refusals.{addNumber}
+use Rattle.placing.specs.Promises.{Added}
 use Rattle.placing.proofs.Within.{study-day-most}
-use Rattle.outcome.proofs.Demand.{first, base, on-day, past, past-one-more}
-use Rattle.file.specs.declared.TakenRecord.{TakenRecord}
-use Rattle.file.specs.File.{refusalOfPart}
-use Rattle.file.specs.Taking.{refusalTaking, linesOnDay, Takes}
-use Rattle.file.proofs.Follows.{Taken, none-read, later-number}
-use Rattle.text.specs.Text.{visitText, linesText, linesInOrder}
+use Rattle.outcome.proofs.Demand.{base, on-day, past, responses}
+use Rattle.file.proofs.Follows.{Taken, accepts}
+use Rattle.text.specs.Text.{visitText, linesText}
 use Rattle.text.proofs.Lines.{AllShort, next-short}
 use Rattle.listing.specs.Writing.{AllWritable}
 
@@ -45,49 +39,40 @@ day-small randomisation (E.Therapy d) marks sizes = let h = study-day-most rando
 day-small randomisation (E.Death d) marks sizes = let h = study-day-most randomisation d in omega arith
 
 -- a record has one line or none
-pub short-visit : (v : MaybeVisit) → AllShort (visitValues v) → AllWritable (visitValues v) × (length (linesText (visitValues v)) ≤ 24)
-short-visit J.Absent h = (tt, omega arith)
-short-visit (J.Judged j) h = ((record { day = h .0 .day; change = h .0 .change }, tt), subst (λ (t : List ℕ). length t ≤ 24) (sym (append-nil (visitText (judgedValues j)))) (h .0 .whole))
+pub short-responses : (a : AddAnswer) → AllShort (addResponses a) → AllWritable (addResponses a) × (length (linesText (addResponses a)) ≤ 24)
+short-responses A.Done h = (tt, omega arith)
+short-responses (A.Judged v) h = ((record { day = h .0 .day; change = h .0 .change }, tt), subst (λ (t : List ℕ). length t ≤ 24) (sym (append-nil (visitText (responseValues v)))) (h .0 .whole))
+short-responses A.NotElevenBytes h = (tt, omega arith)
+short-responses A.NoSuchKind h = (tt, omega arith)
+short-responses A.NoSuchDate h = (tt, omega arith)
+short-responses A.OutsideLimits h = (tt, omega arith)
+short-responses A.NotZero h = (tt, omega arith)
+short-responses A.SecondBaseline h = (tt, omega arith)
+short-responses A.AfterDeath h = (tt, omega arith)
+short-responses A.TooEarly h = (tt, omega arith)
+short-responses A.Misfit h = (tt, omega arith)
+short-responses A.OutOfRange h = (tt, omega arith)
 
-module _ {rs : List Record} {s : Subject} (t : Taken rs s) (part : List ℕ) (x : TakenRecord) (w : Takes s part x) (z : x .number ≡ 0) where
-  abbrev r : Record
-  r = recordOfBytes part
-
+-- the responses that an addition answers are short
+module _ {rs : List Record} {s t : Subject} {a : AddAnswer} (h : Taken rs s) (r : Record) (five : Five r) (w : Added s r a t) (z : addNumber a ≡ 0) where
   abbrev b : Baseline
-  b = base (t .entry) (t .marks) (t .sizes)
+  b = base (h .entry) (h .marks) (h .sizes)
 
   abbrev p : Past
-  p = past (t .entry) (t .marks) (t .sizes) (t .later)
+  p = past (h .entry) (h .marks) (h .sizes) (h .later)
 
   abbrev next : StudyRecord
-  next = on-day (t .entry) (t .marks) (t .sizes) r
-
-  accepts : refusalOfAdding (first (t .entry) (t .marks) (t .sizes) ∷ t .later) r ≡ 0
-  accepts =
-      let none : refusalOfPart (first (t .entry) (t .marks) (t .sizes) ∷ t .later) part ≡ 0 =
-      ap (λ (l : List Record). refusalOfPart l part) (sym (t .opens)) ∙ sym (later-number t part x w) ∙ z in
-      none-read part _ none .1
+  next = on-day (h .entry) (h .marks) (h .sizes) r
 
   both-none : (refusalOf r ≡ 0) × (refusalBehind b p next ≡ 0)
   unfolding refusalOfAdding
-  both-none = none-of-both r (refusalBehind b p next) .0 accepts
+  both-none = none-of-both r (refusalBehind b p next) .0 (eqb-true _ 0 (accepts h r w z))
 
-  -- the lines shown are those of the list
-  shown : visitValues (x .visit) ≡ linesOf b p next
-  unfolding summary
-  shown =
-      let none : eqb (refusalTaking s part) 0 ≡ true = eq-eqb _ 0 (sym (w .number) ∙ z) in
-      w .shown ∙ rw none (ap (λ (u : Subject). linesOnDay u r) (t .held .same) ∙ lines-follow (t .entry .date) b p (r .entry) (r .marks) (r .sizes))
+  shown : addResponses a ≡ linesOf b p next
+  shown = responses (h .entry) (h .marks) (h .sizes) (h .later) r (h .held) w ∙ rw (accepts h r w z)
 
-  pub shown-short : AllShort (visitValues (x .visit))
+  pub shown-short : AllShort (addResponses a)
   shown-short =
       subst AllShort (sym shown)
-      (next-short b p next (t .passes) (own-passed (t .entry .date) r (found-five part) (both-none .0))
-      (one-more b p next (t .held .lawfully) .0 (both-none .1)) (day-small (t .entry .date) (r .entry) (r .marks) (r .sizes)))
-
-  pub lines-more : linesInOrder (onStudyDays (rs ++ (r ∷ []))) ≡ linesInOrder (onStudyDays rs) ++ visitValues (x .visit)
-  lines-more =
-      ap (λ (l : List Record). linesInOrder (onStudyDays (l ++ (r ∷ [])))) (t .opens)
-      ∙ ap (visitLines b) (past-one-more (t .entry) (t .marks) (t .sizes) (t .later) r)
-      ∙ ap (λ (l : List VisitLine). visitLines b p ++ l) (sym shown)
-      ∙ ap (λ (l : List Record). linesInOrder (onStudyDays l) ++ visitValues (x .visit)) (sym (t .opens))
+      (next-short b p next (h .passes) (own-passed (h .entry .date) r five (both-none .0))
+      (one-more b p next (h .held .lawfully) .0 (both-none .1)) (day-small (h .entry .date) (r .entry) (r .marks) (r .sizes)))

@@ -7,33 +7,38 @@ use Prim.Native.Nat.{ℕ, _+_, _-_, _/_, _≤_, _<_}
 use native.Mathlib.Omega.{arith}
 use lib.ListN.{length, take}
 use Rattle.laws.specs.Choice.{pick}
-use Rattle.dates.specs.declared.Date.{Date}
-use Rattle.records.specs.declared.Entry.{Entry}
-use Rattle.records.specs.declared.Entry.the-variants as E
 use Rattle.records.specs.declared.Record.{Record}
 use Rattle.records.specs.Form.{dateOf}
+use Rattle.codec.specs.Bytes.{recordLength}
 use Rattle.codec.specs.Reading.{recordOfBytes}
+use Rattle.codec.proofs.Found.{found-five}
 use Rattle.endpoints.specs.Values.{Outcome, dayValue}
-use Rattle.endpoints.specs.StudyRecords.{entryOnStudyDay, onStudyDays}
+use Rattle.endpoints.specs.StudyRecords.{onStudyDays}
+use Rattle.endpoints.specs.Lines.{linesInOrder}
 use Rattle.held.specs.declared.Subject.{Subject}
-use Rattle.placing.specs.Lines.{visitValues}
+use Rattle.opening.specs.declared.OpenAnswer.{OpenAnswer}
+use Rattle.opening.specs.Opening.{openNumber, OpensBytes}
+use Rattle.placing.specs.declared.AddAnswer.{AddAnswer}
+use Rattle.placing.specs.Lines.{addResponses}
+use Rattle.placing.specs.Refusals.{addNumber}
+use Rattle.placing.specs.Promises.{Added, AddedBytes}
 use Rattle.outcome.specs.Promises.{outcome, pfsHeld, durationHeld, outcomeOf}
 use Rattle.outcome.specs.Laws.{TellsWithin}
 use Rattle.outcome.proofs.Within.{calls-in-range, reading-in-range}
 use Rattle.outcome.proofs.Runs.{readable}
 use Rattle.file.specs.declared.FileAnswer.{FileAnswer}
-use Rattle.file.specs.declared.TakenRecord.{TakenRecord}
-use Rattle.parts.specs.Parts.{badLength, partsOf}
+use Rattle.parts.specs.Parts.{mostBytes, badLength, partsOf}
 use Rattle.file.specs.File.{refused, accepted, startsLate, verdictOf, fileValues, Judges}
-use Rattle.file.specs.Taking.{TakesFirst, Takes, verdictHeld, Ends}
+use Rattle.file.specs.Ending.{verdictHeld, Ends}
 use Rattle.file.proofs.Verdicts.{apart, accepted-same}
 use Rattle.parts.proofs.Cut.{partAt}
+use Rattle.file.proofs.Follows.{alone, later-added, lines-more}
 use Rattle.file.proofs.Turns.{from, Standing, bad, first-refused, first-standing, turn-refused, turn, ended}
-use Rattle.text.specs.Text.{linesText, linesInOrder}
+use Rattle.text.specs.Text.{linesText}
 use Rattle.text.proofs.Texts.{lines-append}
 use Rattle.listing.specs.Writing.{Wrote, AllWritable, SmallIndex, mostLines, JudgesInto}
 use Rattle.listing.proofs.Writing.{then, nothing, as-text}
-use Rattle.listing.proofs.Lines.{short-visit, shown-short, lines-more}
+use Rattle.listing.proofs.Lines.{short-responses, shown-short}
 
 -- the records before index k are taken, and their lines written
 pub record Printing (l page₀ page : List ℕ) (s : Subject) (at k : ℕ) : Type 0 where
@@ -60,55 +65,55 @@ module _ (l page left : List ℕ) (a : FileAnswer) (m : ℕ) where
   pub bad-into : badLength (length l) ≡ true → left ≡ page → (fileValues a ≡ refused 13 0) × (m ≡ 0) → JudgesInto l page a m left
   bad-into h p e = early-into 13 (bad l a h (e .0)) p e
 
-  pub first-into : badLength (length l) ≡ false → left ≡ page → (x : TakenRecord) → TakesFirst (take 11 l) x → (x .number ≡ 0 → ⊥) →
-      (fileValues a ≡ refused (x .number) 0) × (m ≡ 0) → JudgesInto l page a m left
-  first-into h p x w z e = early-into (x .number) (first-refused l h x a w z (e .0)) p e
+  pub first-into : badLength (length l) ≡ false → left ≡ page → (x : OpenAnswer) (s : Subject) (n : ℕ) → OpensBytes (take recordLength l) x s →
+      n ≡ openNumber x → (n ≡ 0 → ⊥) → (fileValues a ≡ refused n 0) × (m ≡ 0) → JudgesInto l page a m left
+  first-into h p x s n w nq z e = early-into n (first-refused l h x s n w nq a z (e .0)) p e
 
-  pub turn-into : (s : Subject) (at k : ℕ) → Printing l page left s at k → k < length l / 11 → length l ≤ 44000 → at ≤ mostLines → (x : TakenRecord) →
-      Takes s (partAt l k) x → (x .number ≡ 0 → ⊥) → (fileValues a ≡ refused (x .number) k) × (m ≡ at) → JudgesInto l page a m left
-  turn-into s at k w h b f x v z e =
-      refused-into (x .number) k (turn-refused l s k (w .standing) h x v a z (e .0)) (e .0) (omega arith) (omega (arith, e .1))
+  pub turn-into : (s : Subject) (at k : ℕ) → Printing l page left s at k → k < length l / recordLength → length l ≤ mostBytes → at ≤ mostLines →
+      (x : AddAnswer) (t : Subject) (n : ℕ) → AddedBytes s (partAt l k) x t → n ≡ addNumber x → (n ≡ 0 → ⊥) → (fileValues a ≡ refused n k) × (m ≡ at) →
+      JudgesInto l page a m left
+  turn-into s at k w h b f x t n v nq z e =
+      refused-into n k (turn-refused l s k (w .standing) h x t n v nq a z (e .0)) (e .0) (omega arith) (omega (arith, e .1))
       (linesText (linesInOrder (onStudyDays (w .standing .before)))) (rw (e .1) (w .written))
 
--- a first record prints no line
-alone : (d : Date) (e : Entry) (marks : List Bool) (sizes : List ℕ) → linesInOrder (entryOnStudyDay d e marks sizes ∷ []) ≡ []
-alone d (E.Baseline b) marks sizes = refl
-alone d (E.Visit v) marks sizes = refl
-alone d (E.Therapy t) marks sizes = refl
-alone d (E.Death t) marks sizes = refl
-
-pub first-printing : (l page : List ℕ) → badLength (length l) ≡ false → (x : TakenRecord) → TakesFirst (take 11 l) x → x .number ≡ 0 →
-    Printing l page page (x .subject) 0 1
-first-printing l page h x w z =
-    let r = recordOfBytes (take 11 l) in
+pub first-printing : (l page : List ℕ) → badLength (length l) ≡ false → (x : OpenAnswer) (s : Subject) (n : ℕ) → OpensBytes (take recordLength l) x s →
+    n ≡ openNumber x → n ≡ 0 → Printing l page page s 0 1
+first-printing l page h x s n w nq z =
+    let r = recordOfBytes (take recordLength l) in
     record {
-      standing = first-standing l h x w z;
+      standing = first-standing l h x s n w nq z;
       written = as-text (ap linesText (sym (alone (dateOf (r .entry)) (r .entry) (r .marks) (r .sizes)))) (nothing page 0);
     }
 
-module _ (l page₀ page : List ℕ) (s : Subject) (at k : ℕ) (w : Printing l page₀ page s at k) (h : k < length l / 11) (x : TakenRecord)
-    (v : Takes s (partAt l k) x) (z : x .number ≡ 0) where
-  pub next-writable : AllWritable (visitValues (x .visit)) × (length (linesText (visitValues (x .visit))) ≤ 24)
-  next-writable = short-visit (x .visit) (shown-short (w .standing .taken) (partAt l k) x v z)
+module _ (l page₀ page : List ℕ) (s : Subject) (at k : ℕ) (w : Printing l page₀ page s at k) (h : k < length l / recordLength) (x : AddAnswer) (t : Subject) (n : ℕ)
+    (v : AddedBytes s (partAt l k) x t) (nq : n ≡ addNumber x) (z : n ≡ 0) where
+  done : addNumber x ≡ 0
+  done = sym nq ∙ z
 
-  pub turn-printing : (at′ : ℕ) (page′ : List ℕ) → Wrote page at (linesText (visitValues (x .visit))) at′ page′ → Printing l page₀ page′ (x .subject) at′ (k + 1)
+  added : Added s (recordOfBytes (partAt l k)) x t
+  added = later-added (w .standing .taken) v done
+
+  pub next-writable : AllWritable (addResponses x) × (length (linesText (addResponses x)) ≤ 24)
+  next-writable = short-responses x (shown-short (w .standing .taken) (recordOfBytes (partAt l k)) (found-five (partAt l k)) added done)
+
+  pub turn-printing : (at′ : ℕ) (page′ : List ℕ) → Wrote page at (linesText (addResponses x)) at′ page′ → Printing l page₀ page′ t at′ (k + 1)
   turn-printing at′ page′ u =
       record {
-        standing = turn l s k (w .standing) h x v z;
+        standing = turn l s k (w .standing) h x t n v nq z;
         written =
             as-text
-            (sym (lines-append (linesInOrder (onStudyDays (w .standing .before))) (visitValues (x .visit)))
-            ∙ ap linesText (sym (lines-more (w .standing .taken) (partAt l k) x v z)))
+            (sym (lines-append (linesInOrder (onStudyDays (w .standing .before))) (addResponses x))
+            ∙ ap linesText (sym (lines-more (w .standing .taken) (recordOfBytes (partAt l k)) added done)))
             (then (w .written) u);
       }
 
 -- behind the last record
-module _ (l page₀ page : List ℕ) (s : Subject) (at k : ℕ) (w : Printing l page₀ page s at k) (h : length l / 11 ≤ k) (b : k ≤ 4000) (m : at ≤ mostLines)
+module _ (l page₀ page : List ℕ) (s : Subject) (at k : ℕ) (w : Printing l page₀ page s at k) (h : length l / recordLength ≤ k) (b : k ≤ 4000) (m : at ≤ mostLines)
     (a : FileAnswer) (v : Ends s (k - 1) a) where
   judged : Judges l a
   judged = ended l s k (w .standing) h a v
 
-  inside : fileValues a ≡ pick (startsLate (durationHeld s) (dayValue (s .counted .first)) (pfsHeld s)) (refused 14 (k - 1)) (accepted (outcomeOf s))
+  inside : fileValues a ≡ pick (startsLate (durationHeld s) (dayValue (s .followup .counted .first)) (pfsHeld s)) (refused 14 (k - 1)) (accepted (outcomeOf s))
   unfolding verdictHeld
   inside = v .answer ∙ rw (w .standing .taken .held .inside)
 
@@ -118,14 +123,14 @@ module _ (l page₀ page : List ℕ) (s : Subject) (at k : ℕ) (w : Printing l 
       subst TellsWithin (read .1 .answer ∙ reading-in-range s (w .standing .taken .held .inside)) (calls-in-range .told (read .1) (w .standing .taken .held .inside))
 
   small : SmallIndex (fileValues a)
-  small = subst SmallIndex (sym inside) (go (startsLate (durationHeld s) (dayValue (s .counted .first)) (pfsHeld s)))
+  small = subst SmallIndex (sym inside) (go (startsLate (durationHeld s) (dayValue (s .followup .counted .first)) (pfsHeld s)))
     where
       go : (late : Bool) → SmallIndex (pick late (refused 14 (k - 1)) (accepted (outcomeOf s)))
       go true = omega arith
       go false = tt
 
   told : (o : Outcome) → verdictOf l ≡ accepted o → TellsWithin (outcome o)
-  told o e = go (startsLate (durationHeld s) (dayValue (s .counted .first)) (pfsHeld s)) (sym inside ∙ judged .answer ∙ e)
+  told o e = go (startsLate (durationHeld s) (dayValue (s .followup .counted .first)) (pfsHeld s)) (sym inside ∙ judged .answer ∙ e)
     where
       go : (late : Bool) → pick late (refused 14 (k - 1)) (accepted (outcomeOf s)) ≡ accepted o → TellsWithin (outcome o)
       go true q = absurd (apart refl q)
@@ -133,7 +138,7 @@ module _ (l page₀ page : List ℕ) (s : Subject) (at k : ℕ) (w : Printing l 
 
   every-record : w .standing .before ≡ map recordOfBytes (partsOf l)
   every-record =
-      let z : length l / 11 - k ≡ 0 = omega arith in
+      let z : length l / recordLength - k ≡ 0 = omega arith in
       let none : from l k ≡ [] = rw z in
       sym (append-nil (w .standing .before)) ∙ ap (λ (ps : List (List ℕ)). w .standing .before ++ map recordOfBytes ps) (sym none) ∙ w .standing .all
 

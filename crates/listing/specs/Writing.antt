@@ -9,13 +9,13 @@ use Rattle.codec.specs.Reading.{recordOfBytes}
 use Rattle.criteria.specs.Words.{Word}
 use Rattle.endpoints.specs.Values.{Outcome}
 use Rattle.endpoints.specs.StudyRecords.{onStudyDays}
-use Rattle.endpoints.specs.Lines.{VisitLine}
+use Rattle.endpoints.specs.Lines.{VisitLine, linesInOrder}
 use Rattle.outcome.specs.Promises.{outcome}
 use Rattle.outcome.specs.Laws.{TellsWithin}
 use Rattle.file.specs.declared.FileAnswer.{FileAnswer}
 use Rattle.parts.specs.Parts.{partsOf}
 use Rattle.file.specs.File.{Verdict, refused, accepted, verdictOf, fileValues}
-use Rattle.text.specs.Text.{firstLetter, secondLetter, linesText, linesInOrder, listingOf, pageOf}
+use Rattle.text.specs.Text.{firstLetter, secondLetter, linesText, listingOf, pageOf}
 
 -- a text was written into the page from a place on, which led to the place behind it; every other byte is as it was
 pub record Wrote (page : List ℕ) (at : ℕ) (text : List ℕ) (next : ℕ) (left : List ℕ) : Type 0 where

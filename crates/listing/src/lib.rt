@@ -41,9 +41,11 @@ fn judge_into(bytes: &[u8], page: &mut [u8]) -> JudgedLines
     if parts::bad_length(bytes.len()) {
         return stopped(13, 0, 0);
     }
-    let first = file::first_record(&bytes[0..11]);
-    if first.number != 0 {
-        return stopped(first.number, 0, 0);
+    let first = opening::open_bytes(&bytes[0..RECORD_LENGTH]);
+    let opened = first.answer;
+    let unopened = opening::open_number(opened);
+    if unopened != 0 {
+        return stopped(unopened, 0, 0);
     }
     let count = bytes.len() / RECORD_LENGTH;
     let mut subject = first.subject;
@@ -52,14 +54,15 @@ fn judge_into(bytes: &[u8], page: &mut [u8]) -> JudgedLines
     while k < count {
         let from = k * RECORD_LENGTH;
         let to = from + RECORD_LENGTH;
-        let taken = file::later_record(subject, &bytes[from..to]);
-        if taken.number != 0 {
-            return stopped(taken.number, k, at);
+        let addition = placing::add_bytes(subject, &bytes[from..to]);
+        let responses = addition.answer;
+        let number = placing::add_number(responses);
+        if number != 0 {
+            return stopped(number, k, at);
         }
-        let visit = taken.visit;
-        let next = taken.subject;
+        let next = addition.subject;
         subject = next;
-        at = visits::put_lines(page, at, visit);
+        at = visits::put_lines(page, at, responses);
         k += 1;
     }
     let answer = file::end_file(subject, k - 1);

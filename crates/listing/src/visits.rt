@@ -11,8 +11,8 @@ use super::words::target_letters;
 use criteria::ChangeAnswer;
 use criteria::Overall;
 use criteria::Target;
-use placing::JudgedVisit;
-use placing::MaybeVisit;
+use placing::AddAnswer;
+use placing::VisitResponse;
 use records::Status;
 ghost use mathlib.Core.Path.{_≡_};
 ghost use mathlib.Core.List.{[], _∷_, _++_};
@@ -20,7 +20,7 @@ ghost use Prim.Native.Nat.{_+_, _≤_, _<_};
 ghost use lib.ListN.{length};
 ghost use Rattle.criteria.specs.Words.{targetWord, statusWord, overallWord};
 ghost use Rattle.criteria.specs.Change.{changeValues};
-ghost use Rattle.placing.specs.Lines.{judgedValues, visitValues};
+ghost use Rattle.placing.specs.Lines.{responseValues, addResponses};
 ghost use Rattle.text.specs.Numerals.{decimal};
 ghost use Rattle.text.specs.Text.{wordText, tenthsText, changeText, visitText, linesText};
 ghost use Rattle.listing.specs.Writing.{Wrote, AllWritable, Writable};
@@ -78,9 +78,9 @@ fn put_answers(
     put_word(page, third, overall_letters(overall))
 }
 
-fn put_visit(page: &mut [u8], at: usize, visit: JudgedVisit) -> usize
-    requires { ⌜ (Writable (judgedValues visit)) × (at + 26 ≤ length (now page)) ⌝ }
-    ensures { λ r. ⌜ Wrote (now (page .entry)) at (visitText (judgedValues visit)) r (now (page .exit)) ⌝ }
+fn put_visit(page: &mut [u8], at: usize, visit: VisitResponse) -> usize
+    requires { ⌜ (Writable (responseValues visit)) × (at + 26 ≤ length (now page)) ⌝ }
+    ensures { λ r. ⌜ Wrote (now (page .entry)) at (visitText (responseValues visit)) r (now (page .exit)) ⌝ }
 {
     let target = visit.target;
     let status = visit.nontarget;
@@ -92,12 +92,22 @@ fn put_visit(page: &mut [u8], at: usize, visit: JudgedVisit) -> usize
 }
 
 // A line for a visit, and none for any other record.
-pub(crate) fn put_lines(page: &mut [u8], at: usize, visit: MaybeVisit) -> usize
-    requires { ⌜ (AllWritable (visitValues visit)) × (at + 26 ≤ length (now page)) ⌝ }
-    ensures { λ r. ⌜ Wrote (now (page .entry)) at (linesText (visitValues visit)) r (now (page .exit)) ⌝ }
+pub(crate) fn put_lines(page: &mut [u8], at: usize, answer: AddAnswer) -> usize
+    requires { ⌜ (AllWritable (addResponses answer)) × (at + 26 ≤ length (now page)) ⌝ }
+    ensures { λ r. ⌜ Wrote (now (page .entry)) at (linesText (addResponses answer)) r (now (page .exit)) ⌝ }
 {
-    match visit {
-        MaybeVisit::Absent => at,
-        MaybeVisit::Judged(v) => put_visit(page, at, v),
+    match answer {
+        AddAnswer::Done => at,
+        AddAnswer::Judged(v) => put_visit(page, at, v),
+        AddAnswer::NotElevenBytes => at,
+        AddAnswer::NoSuchKind => at,
+        AddAnswer::NoSuchDate => at,
+        AddAnswer::OutsideLimits => at,
+        AddAnswer::NotZero => at,
+        AddAnswer::SecondBaseline => at,
+        AddAnswer::AfterDeath => at,
+        AddAnswer::TooEarly => at,
+        AddAnswer::Misfit => at,
+        AddAnswer::OutOfRange => at,
     }
 }

@@ -1,6 +1,6 @@
 -- What the code answers, from what it found: `search` finds the premises by itself.
 -- Assumes nothing.
-use mathlib.Core.Path.{_≡_, _∙_, refl, sym, ap}
+use mathlib.Core.Path.{_≡_, _∙_, refl, sym, ap, subst}
 use mathlib.Core.Bool.{Bool, false}
 use mathlib.Core.List.{List, [], _∷_}
 use Prim.Native.Nat.{ℕ, suc}
@@ -12,7 +12,7 @@ use Rattle.response.specs.Judging.{JudgesBaseline}
 use Rattle.endpoints.specs.declared.MaybeDay.the-variants as M
 use Rattle.held.specs.declared.EventDays.{EventDays}
 use Rattle.held.specs.declared.CountingVisits.{CountingVisits}
-use Rattle.opening.specs.Opening.{noVisits, nothingCounted, firstSubject, blank, openNumber, subjectOf, OpensChecked, openedSubject, Opened}
+use Rattle.opening.specs.Opening.{noVisits, nothingCounted, firstSubject, blank, openNumber, subjectOf, OpensChecked, openedSubject, Opened, OpensBytes}
 use native.Mathlib.Omega.{arith}
 use borrow.Author.Tests.{ne-eqb}
 use Rattle.laws.specs.Choice.{pick}
@@ -24,7 +24,12 @@ use Rattle.records.specs.declared.Record.{Record}
 use Rattle.records.specs.declared.CheckAnswer.{CheckAnswer}
 use Rattle.records.specs.declared.CheckAnswer.the-variants as C
 use Rattle.records.specs.Form.{Five}
-use Rattle.records.specs.Refusals.{checkNumber, refusalOf}
+use Rattle.records.specs.Refusals.{checkNumber, refusalOfRead, refusalOf}
+use Rattle.dates.specs.Calendar.{dateExists}
+use Rattle.codec.specs.declared.ReadAnswer.the-variants as R
+use Rattle.codec.specs.declared.ReadResult.{ReadResult}
+use Rattle.codec.specs.Reading.{readNumber, refusalOfBytes, recordOfBytes, blank as blankRecord, Reads}
+use Rattle.codec.proofs.Fine.{found-fine}
 use Rattle.endpoints.specs.Adding.{notBaseline, refusalOfOpening}
 use Rattle.held.specs.declared.Subject.{Subject}
 use Rattle.opening.specs.declared.OpenAnswer.{OpenAnswer}
@@ -35,15 +40,13 @@ use Rattle.opening.specs.declared.OpenResult.{OpenResult}
 
 pub blank-made : (e : EventDays) (c : CountingVisits) → e ≡ noVisits (record { 0 = 0 }) → c ≡ nothingCounted →
     record {
-      randomisation = ymd 0 0 0;
-      nontarget = false;
-      baseline = record { assessed = false; count = 0; nodes = false ∷ false ∷ false ∷ false ∷ false ∷ []; sum = 0 };
-      earlier = record { nadir = 0 };
-      latest = record { 0 = 0 };
-      therapy = false;
-      death = M.Absent;
-      event = e;
-      counted = c;
+      enrolment =
+          record {
+            randomisation = ymd 0 0 0;
+            nontarget = false;
+            baseline = record { assessed = false; count = 0; nodes = false ∷ false ∷ false ∷ false ∷ false ∷ []; sum = 0 };
+          };
+      followup = record { earlier = record { nadir = 0 }; latest = record { 0 = 0 }; therapy = false; death = M.Absent; event = e; counted = c };
     }
     ≡ blank
 unfolding blank
@@ -52,15 +55,8 @@ blank-made e c p q = rw (p, q)
 pub first-made : (b : BaselineEntry) (nodes : List Bool) (sizes : List ℕ) (a : BaselineAnswer) (e : EventDays) (c : CountingVisits) →
     JudgesBaseline b nodes sizes a → e ≡ noVisits (record { 0 = 1 }) → c ≡ nothingCounted →
     record {
-      randomisation = b .date;
-      nontarget = b .nontarget;
-      baseline = a .disease;
-      earlier = a .after;
-      latest = record { 0 = 1 };
-      therapy = false;
-      death = M.Absent;
-      event = e;
-      counted = c;
+      enrolment = record { randomisation = b .date; nontarget = b .nontarget; baseline = a .disease };
+      followup = record { earlier = a .after; latest = record { 0 = 1 }; therapy = false; death = M.Absent; event = e; counted = c };
     }
     ≡ firstSubject b nodes sizes
 unfolding firstSubject
@@ -117,3 +113,45 @@ module _ (r : Record) (five : Five r) where
     opens-passed x p q =
         let passed : refusalOf r ≡ 0 = sym e ∙ ap checkNumber p in
         record { answer = q .answer ∙ rw passed; made = q .made ∙ rw passed (only-baseline (r .entry) (r .marks) (r .sizes)); five = five }
+
+-- ---- opening from bytes
+
+-- no subject is opened with the record that stands beside a refusal of bytes
+blank-opens-none : openedSubject blankRecord ≡ blank
+unfolding openedSubject refusalOfOpening refusalOfRead dateExists
+blank-opens-none = refl
+
+module _ (s : List ℕ) (read : ReadResult) (w : Reads s read) (x : OpenResult) where
+  bytes-refused : (a : OpenAnswer) (n : ℕ) → readNumber (read .answer) ≡ suc n → openNumber a ≡ suc n → (x .answer ≡ a) × (x .subject ≡ blank) →
+      OpensBytes s (x .answer) (x .subject)
+  unfolding recordOfBytes
+  bytes-refused a n p e q =
+      let met : refusalOfBytes s ≡ suc n = sym (w .answer) ∙ p in
+      let not-zero = ne-eqb (suc n) 0 (omega arith) in
+      record { answer = ap openNumber (q .0) ∙ e ∙ rw (met, not-zero); made = q .1 ∙ rw (met, not-zero) (sym blank-opens-none); octets = w .octets }
+
+  pub bytes-short : read .answer ≡ R.NotElevenBytes → (x .answer ≡ N.NotElevenBytes) × (x .subject ≡ blank) → OpensBytes s (x .answer) (x .subject)
+  bytes-short p q = bytes-refused N.NotElevenBytes 0 (ap readNumber p) refl q
+
+  pub bytes-no-kind : read .answer ≡ R.NoSuchKind → (x .answer ≡ N.NoSuchKind) × (x .subject ≡ blank) → OpensBytes s (x .answer) (x .subject)
+  bytes-no-kind p q = bytes-refused N.NoSuchKind 1 (ap readNumber p) refl q
+
+  pub bytes-no-date : read .answer ≡ R.NoSuchDate → (x .answer ≡ N.NoSuchDate) × (x .subject ≡ blank) → OpensBytes s (x .answer) (x .subject)
+  bytes-no-date p q = bytes-refused N.NoSuchDate 2 (ap readNumber p) refl q
+
+  pub bytes-outside : read .answer ≡ R.OutsideLimits → (x .answer ≡ N.OutsideLimits) × (x .subject ≡ blank) → OpensBytes s (x .answer) (x .subject)
+  bytes-outside p q = bytes-refused N.OutsideLimits 3 (ap readNumber p) refl q
+
+  pub bytes-not-zero : read .answer ≡ R.NotZero → (x .answer ≡ N.NotZero) × (x .subject ≡ blank) → OpensBytes s (x .answer) (x .subject)
+  bytes-not-zero p q = bytes-refused N.NotZero 4 (ap readNumber p) refl q
+
+  pub bytes-read : read .answer ≡ R.Done → OpensChecked (read .found .entry) (read .found .marks) (read .found .sizes) (x .answer) (x .subject) →
+      OpensBytes s (x .answer) (x .subject)
+  unfolding openedSubject refusalOfOpening
+  bytes-read p q =
+      let r = recordOfBytes s in
+      let none : refusalOfBytes s ≡ 0 = sym (w .answer) ∙ ap readNumber p in
+      let passed : refusalOf r ≡ 0 = found-fine s (w .octets) none in
+      let checked : OpensChecked (r .entry) (r .marks) (r .sizes) (x .answer) (x .subject) =
+      subst (λ (y : Record). OpensChecked (y .entry) (y .marks) (y .sizes) (x .answer) (x .subject)) (w .found) q in
+      record { answer = checked .answer ∙ rw (none, passed); made = checked .made ∙ rw passed (only-baseline (r .entry) (r .marks) (r .sizes)); octets = w .octets }

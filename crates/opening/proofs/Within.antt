@@ -14,12 +14,12 @@ use Rattle.records.specs.Refusals.{mostTargets, largestSize}
 use Rattle.criteria.specs.Sums.{sumWhere, baselineSum}
 use Rattle.criteria.specs.Nadir.{nadirOf}
 use Rattle.criteria.specs.Overall.{evaluable}
-use Rattle.held.specs.Range.{inRange}
+use Rattle.held.specs.Range.{enrolmentInRange, inRange}
 use Rattle.opening.specs.Opening.{firstSubject, blank}
 use Rattle.held.specs.Laws.{SubjectWithin}
 
 pub blank-outside : inRange blank ≡ false
-unfolding inRange blank dateExists
+unfolding enrolmentInRange inRange blank dateExists
 blank-outside = refl
 
 sum-most : (marked : ℕ → Bool) (sizes : List ℕ) (n : ℕ) → ((k : ℕ) → k < n → getD sizes k 0 ≤ largestSize) → sumWhere marked sizes n ≤ n * largestSize
@@ -37,12 +37,13 @@ unfolding firstSubject nadirOf baselineSum
 opening-within b nodes sizes date count small =
     let sum = sum-most (λ (i : ℕ). ltb i (b .count)) sizes mostTargets small in
     record {
-      randomisation = date;
-      count = count;
-      sum = sum;
-      nadir = sum;
-      latest = (omega arith, omega arith);
-      death = tt;
-      event = record { previous = (omega arith, omega arith); progression = tt; evaluable = tt };
-      counted = record { first = tt; start = tt };
+      enrolment = record { randomisation = date; count = count; sum = sum };
+      followup =
+          record {
+            nadir = sum;
+            latest = (omega arith, omega arith);
+            death = tt;
+            event = record { previous = (omega arith, omega arith); progression = tt; evaluable = tt };
+            counted = record { first = tt; start = tt };
+          };
     }

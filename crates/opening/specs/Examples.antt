@@ -1,4 +1,4 @@
--- Document 01, "Where a call stops", 3 to 5 and 7: the numbers of the cases, the subject that the printed baseline opens, and the blank beside a refusal.
+-- Document 01, "Where a call stops", 1 to 5 and 7: the numbers of the cases, the subject that the printed baseline opens, and the blank beside a refusal.
 -- Proved in proofs/WorkedExamples.antt.
 -- Assumes nothing.
 use mathlib.Core.Path.{_≡_}
@@ -20,11 +20,11 @@ zeros =
     (events M.Absent 0 M.Absent) noCounts
 
 pub record OpenedAtTheEdges : Type 0 where
-  -- 3 to 5; 7 not a baseline
-  pub numbers : map openNumber (O.Done ∷ O.NoSuchDate ∷ O.OutsideLimits ∷ O.NotZero ∷ O.NotBaseline ∷ []) ≡ 0 ∷ 3 ∷ 4 ∷ 5 ∷ 7 ∷ []
+  -- 1 to 5; 7 not a baseline
+  pub numbers : map openNumber (O.Done ∷ O.NotElevenBytes ∷ O.NoSuchKind ∷ O.NoSuchDate ∷ O.OutsideLimits ∷ O.NotZero ∷ O.NotBaseline ∷ []) ≡ 0 ∷ 1 ∷ 2 ∷ 3 ∷ 4 ∷ 5 ∷ 7 ∷ []
   -- its date is the randomisation date; the latest day starts at 1; whether it has non-target lesions
   pub printed : openedSubject (printedBaseline (ymd 2020 1 1)) ≡ printedOpened
-  pub withoutNontarget : openedSubject (baselineDated (ymd 2020 1 1) true false 1 [] (100 ∷ [])) .nontarget ≡ false
+  pub withoutNontarget : openedSubject (baselineDated (ymd 2020 1 1) true false 1 [] (100 ∷ [])) .enrolment .nontarget ≡ false
   -- a refusal carries its number and nothing else: beside a baseline without a date (3), a visit, a therapy and a death (7) stands the blank
   pub noDate : openedSubject (printedBaseline (ymd 2021 2 29)) ≡ zeros
   pub visit : openedSubject visited ≡ zeros

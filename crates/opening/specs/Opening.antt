@@ -1,4 +1,4 @@
--- Document 01, "Where a call stops", 3 to 5 and 7, and "Outcome": opening, what is held after a baseline alone, and the blank beside a refusal.
+-- Document 01, "Where a call stops", 1 to 5 and 7, and "Outcome": opening, what is held after a baseline alone, and the blank beside a refusal.
 -- Assumes nothing.
 use mathlib.Core.Path.{_≡_}
 use Prim.Native.Nat.{ℕ}
@@ -13,8 +13,11 @@ use Rattle.records.specs.declared.Entry.{Entry}
 use Rattle.records.specs.declared.Entry.the-variants as E
 use Rattle.records.specs.declared.Record.{Record}
 use Rattle.records.specs.Form.{Five}
+use Rattle.packing.specs.Layout.{AreBytes}
+use Rattle.codec.specs.Reading.{recordOfBytes, afterReading}
 use Rattle.criteria.specs.Inputs.{diseaseOf}
 use Rattle.criteria.specs.Nadir.{leftBy}
+use Rattle.endpoints.specs.declared.BestResponse.the-variants as B
 use Rattle.endpoints.specs.declared.MaybeDay.the-variants as M
 use Rattle.endpoints.specs.Adding.{notBaseline, refusalOfOpening}
 use Rattle.opening.specs.declared.OpenAnswer.{OpenAnswer}
@@ -28,41 +31,50 @@ abbrev pub noVisits : StudyDay → EventDays
 noVisits day = record { progression = M.Absent; previous = day; evaluable = M.Absent }
 
 abbrev pub nothingCounted : CountingVisits
-nothingCounted = record { first = M.Absent; start = M.Absent; cr = false; pr = false; sd = false; pd = false }
+nothingCounted = record { first = M.Absent; start = M.Absent; best = B.NE }
 
 -- the latest day and v start at 1
 unfoldable pub firstSubject : BaselineEntry → List Bool → List ℕ → Subject
 firstSubject b nodes sizes =
     record {
-      randomisation = b .date;
-      nontarget = b .nontarget;
-      baseline = diseaseOf b nodes sizes;
-      earlier = leftBy (diseaseOf b nodes sizes) [];
-      latest = record { 0 = 1 };
-      therapy = false;
-      death = M.Absent;
-      event = noVisits (record { 0 = 1 });
-      counted = nothingCounted;
+      enrolment = record { randomisation = b .date; nontarget = b .nontarget; baseline = diseaseOf b nodes sizes };
+      followup =
+          record {
+            earlier = leftBy (diseaseOf b nodes sizes) [];
+            latest = record { 0 = 1 };
+            therapy = false;
+            death = M.Absent;
+            event = noVisits (record { 0 = 1 });
+            counted = nothingCounted;
+          };
     }
 
 -- everything zero, so that 12 meets it
 unfoldable pub blank : Subject
 blank =
     record {
-      randomisation = ymd 0 0 0;
-      nontarget = false;
-      baseline = record { assessed = false; count = 0; nodes = false ∷ false ∷ false ∷ false ∷ false ∷ []; sum = 0 };
-      earlier = record { nadir = 0 };
-      latest = record { 0 = 0 };
-      therapy = false;
-      death = M.Absent;
-      event = noVisits (record { 0 = 0 });
-      counted = nothingCounted;
+      enrolment =
+          record {
+            randomisation = ymd 0 0 0;
+            nontarget = false;
+            baseline = record { assessed = false; count = 0; nodes = false ∷ false ∷ false ∷ false ∷ false ∷ []; sum = 0 };
+          };
+      followup =
+          record {
+            earlier = record { nadir = 0 };
+            latest = record { 0 = 0 };
+            therapy = false;
+            death = M.Absent;
+            event = noVisits (record { 0 = 0 });
+            counted = nothingCounted;
+          };
     }
 
 -- the number of each case in document 01; 0 where no refusal meets
 abbrev pub openNumber : OpenAnswer → ℕ
 openNumber O.Done = 0
+openNumber O.NotElevenBytes = 1
+openNumber O.NoSuchKind = 2
 openNumber O.NoSuchDate = 3
 openNumber O.OutsideLimits = 4
 openNumber O.NotZero = 5
@@ -89,3 +101,10 @@ pub record Opened (r : Record) (a : OpenAnswer) (s : Subject) : Type 0 where
   pub answer : openNumber a ≡ refusalOfOpening r
   pub made : s ≡ openedSubject r
   pub five : Five r
+
+-- from bytes: 1 and 2 before these; the one record that stands beside a refusal of bytes opens no subject
+pub record OpensBytes (s : List ℕ) (a : OpenAnswer) (t : Subject) : Type 0 where
+  pub answer : openNumber a ≡ afterReading s (refusalOfOpening (recordOfBytes s))
+  pub made : t ≡ openedSubject (recordOfBytes s)
+  -- the type `u8` gives it
+  pub octets : AreBytes s

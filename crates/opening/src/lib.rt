@@ -1,22 +1,29 @@
-// Opening a subject with a baseline (document 01, "Where a call stops", 3 to 5 and 7), and the blank that stands beside a refusal. That what is
-// opened is what is held after the baseline alone is proved here.
+// Opening a subject with a baseline, from a record or from its bytes (document 01, "Where a call stops", 1 to 5 and 7), and the blank that stands
+// beside a refusal. That what is opened is what is held after the baseline alone is proved here.
+use codec::ReadAnswer;
 use criteria::BaselineDisease;
 use criteria::Earlier;
 use dates::Date;
 use dates::StudyDay;
+use endpoints::BestResponse;
 use endpoints::MaybeDay;
 use held::CountingVisits;
+use held::Enrolment;
 use held::EventDays;
+use held::FollowUp;
 use held::Subject;
 use records::BaselineEntry;
 use records::CheckAnswer;
 use records::Entry;
 use records::Record;
 ghost use mathlib.Core.Path.{_≡_};
-ghost use Rattle.opening.specs.Opening.{noVisits, nothingCounted, firstSubject, blank, OpensChecked, Opened};
+ghost use Rattle.opening.specs.Opening.{noVisits, nothingCounted, firstSubject, blank, openNumber, OpensChecked, Opened, OpensBytes};
 
 pub enum OpenAnswer {
     Done,
+    // This and the next from bytes alone.
+    NotElevenBytes,
+    NoSuchKind,
     NoSuchDate,
     OutsideLimits,
     NotZero,
@@ -27,6 +34,21 @@ pub enum OpenAnswer {
 pub struct OpenResult {
     pub subject: Subject,
     pub answer: OpenAnswer,
+}
+
+// The number in document 01; 0 where a subject was opened.
+pub fn open_number(answer: OpenAnswer) -> u8
+    ensures { λ r. ⌜ r ≡ openNumber answer ⌝ }
+{
+    match answer {
+        OpenAnswer::Done => 0,
+        OpenAnswer::NotElevenBytes => 1,
+        OpenAnswer::NoSuchKind => 2,
+        OpenAnswer::NoSuchDate => 3,
+        OpenAnswer::OutsideLimits => 4,
+        OpenAnswer::NotZero => 5,
+        OpenAnswer::NotBaseline => 7,
+    }
 }
 
 fn no_visits(day: StudyDay) -> EventDays
@@ -45,10 +67,7 @@ fn nothing_counted() -> CountingVisits
     CountingVisits {
         first: MaybeDay::Absent,
         start: MaybeDay::Absent,
-        cr: false,
-        pr: false,
-        sd: false,
-        pd: false,
+        best: BestResponse::NE,
     }
 }
 
@@ -61,16 +80,22 @@ fn first_subject(entry: BaselineEntry, nodes: [bool; 5], sizes: [u16; 5]) -> Sub
     let after = judged.after;
     let event = no_visits(StudyDay(1));
     let counted = nothing_counted();
-    Subject {
+    let enrolment = Enrolment {
         randomisation: date,
         nontarget: entry.nontarget,
         baseline: disease,
+    };
+    let followup = FollowUp {
         earlier: after,
         latest: StudyDay(1),
         therapy: false,
         death: MaybeDay::Absent,
         event: event,
         counted: counted,
+    };
+    Subject {
+        enrolment: enrolment,
+        followup: followup,
     }
 }
 
@@ -79,7 +104,7 @@ fn blank_subject() -> Subject
 {
     let event = no_visits(StudyDay(0));
     let counted = nothing_counted();
-    Subject {
+    let enrolment = Enrolment {
         randomisation: Date {
             year: 0,
             month: 0,
@@ -92,12 +117,18 @@ fn blank_subject() -> Subject
             nodes: [false; 5],
             sum: 0,
         },
+    };
+    let followup = FollowUp {
         earlier: Earlier { nadir: 0 },
         latest: StudyDay(0),
         therapy: false,
         death: MaybeDay::Absent,
         event: event,
         counted: counted,
+    };
+    Subject {
+        enrolment: enrolment,
+        followup: followup,
     }
 }
 
@@ -140,5 +171,25 @@ pub fn open_subject(r: Record) -> OpenResult
         CheckAnswer::OutsideLimits => refused(OpenAnswer::OutsideLimits),
         CheckAnswer::NotZero => refused(OpenAnswer::NotZero),
         CheckAnswer::Passed => open_checked(entry, marks, sizes),
+    }
+}
+
+// The record is judged as it is read, and not again.
+pub fn open_bytes(bytes: &[u8]) -> OpenResult
+    ensures { λ x. ⌜ OpensBytes (now (bytes .entry)) (x .answer) (x .subject) ⌝ }
+{
+    let read = codec::read(bytes);
+    let answer = read.answer;
+    let found = read.found;
+    let entry = found.entry;
+    let marks = found.marks;
+    let sizes = found.sizes;
+    match answer {
+        ReadAnswer::Done => open_checked(entry, marks, sizes),
+        ReadAnswer::NotElevenBytes => refused(OpenAnswer::NotElevenBytes),
+        ReadAnswer::NoSuchKind => refused(OpenAnswer::NoSuchKind),
+        ReadAnswer::NoSuchDate => refused(OpenAnswer::NoSuchDate),
+        ReadAnswer::OutsideLimits => refused(OpenAnswer::OutsideLimits),
+        ReadAnswer::NotZero => refused(OpenAnswer::NotZero),
     }
 }

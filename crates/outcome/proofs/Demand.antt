@@ -17,20 +17,23 @@ use Rattle.records.specs.Refusals.{outsideLimits, notZero, firstOwn, refusalOfR
 use Rattle.endpoints.specs.StudyRecords.{Baseline, StudyRecord, onStudyDay, onStudyDays}
 use Rattle.endpoints.specs.Lawful.{Past, latestDay, died, lawfulBehind}
 use Rattle.endpoints.specs.Lasting.{MarksExactOn}
-use Rattle.endpoints.specs.Adding.{isBaseline, tooEarly, misfits, refusalBehind, afterOwn, notBaseline, refusalOfOpening, refusalOfAdding, Call, add, acceptedAfter}
+use Rattle.endpoints.specs.Lines.{VisitLine}
+use Rattle.endpoints.specs.Adding.{isBaseline, tooEarly, misfits, refusalBehind, afterOwn, notBaseline, refusalOfOpening, refusalOfAdding, responsesOfAdding, Call, add, acceptedAfter}
 use Rattle.endpoints.proofs.Calls.{none-of-both, accepted-lawful, accepted-exact}
 use Rattle.held.specs.declared.Subject.{Subject}
 use Rattle.opening.specs.Opening.{openNumber, subjectOf, openedSubject, Opened}
 use Rattle.held.specs.Range.{inRange}
 use Rattle.placing.specs.declared.AddAnswer.{AddAnswer}
+use Rattle.placing.specs.Lines.{addResponses}
 use Rattle.placing.specs.Refusals.{addNumber}
+use Rattle.placing.specs.Promises.{responsesBy, subjectBy, refusalHeld, Added}
 use Rattle.held.proofs.Follows.{summary}
 use Rattle.opening.proofs.Follows.{baselineOf, opening-follows}
 use Rattle.opening.specs.declared.OpenAnswer.{OpenAnswer}
 use Rattle.outcome.specs.declared.OutcomeAnswer.{OutcomeAnswer}
-use Rattle.outcome.specs.Promises.{refusalHeld, nextSubject, Added, Reading, outcome, readingValues, outcomeOf, Told}
+use Rattle.outcome.specs.Promises.{Reading, outcome, readingValues, outcomeOf, Told}
 use Rattle.outcome.specs.Demand3.{Reply, added, told, Calls, none, adds, reads, outcomeOn, repliesAfter, Without12, SaysOn, Claim, Holds, Demand3}
-use Rattle.outcome.proofs.Follows.{refusal-held, longer-lawful, added-held, refused-held, outcome-held}
+use Rattle.outcome.proofs.Follows.{refusal-held, responses-held, longer-lawful, added-held, refused-held, outcome-held}
 use Rattle.outcome.proofs.Within.{calls-in-range, reading-in-range}
 use Rattle.outcome.proofs.Runs.{opens, runs, readable}
 
@@ -104,8 +107,12 @@ module _ (x : BaselineEntry) (marks : List Bool) (sizes : List ℕ) where
     unfolding refusalOfAdding
     number = w .answer ∙ ap (λ (u : Subject). refusalHeld u r) (h .same) ∙ refusal-held (x .date) base (past rs) inside r
 
-    next : t ≡ nextSubject (held-after rs) r
-    next = w .left ∙ ap (λ (u : Subject). nextSubject u r) (h .same)
+    next : t ≡ subjectBy (held-after rs) r (refusalHeld (held-after rs) r)
+    next = w .left ∙ ap (λ (u : Subject). subjectBy u r (refusalHeld u r)) (h .same)
+
+    pub responses : addResponses a ≡ responsesOfAdding (first ∷ rs) r
+    unfolding refusalOfAdding
+    responses = w .responses ∙ ap (λ (u : Subject). responsesBy u r (refusalHeld u r)) (h .same) ∙ responses-held (x .date) base (past rs) inside r
 
     kept : eqb (refusalOfAdding (first ∷ rs) r) 0 ≡ false → Held rs t
     unfolding refusalOfAdding
@@ -139,15 +146,18 @@ module _ (x : BaselineEntry) (marks : List Bool) (sizes : List ℕ) where
     without12 : Without12 ys
     held : Held last t
 
-  module _ (rs : List Record) (r : Record) {cs : List Call} {ys : List Reply} {n : ℕ} {u : Subject} (e : n ≡ refusalOfAdding (first ∷ rs) r) where
+  module _ (rs : List Record) (r : Record) {cs : List Call} {ys : List Reply} {n : ℕ} {ls : List VisitLine} {u : Subject} (e : n ≡ refusalOfAdding (first ∷ rs) r)
+      (f : ls ≡ responsesOfAdding (first ∷ rs) r) where
     -- the records accepted are those accepted so far, or those and one more
     one-call : (ss : List Record) → pick (eqb (refusalOfAdding (first ∷ rs) r) 0) (first ∷ rs ++ (r ∷ [])) (first ∷ rs) ≡ first ∷ ss → After ss cs ys u →
-        After rs (add r ∷ cs) (added n ∷ ys) u
+        After rs (add r ∷ cs) (added n ls ∷ ys) u
     one-call ss q later =
         record {
           last = later .last;
           behind = ap (λ (l : List Record). acceptedAfter l cs) q ∙ later .behind;
-          replied = ap (λ (m : ℕ). added m ∷ ys) e ∙ ap (λ (l : List Reply). added (refusalOfAdding (first ∷ rs) r) ∷ l) (later .replied ∙ ap (λ (l : List Record). repliesAfter l cs) (sym q));
+          replied =
+              let rest = later .replied ∙ ap (λ (l : List Record). repliesAfter l cs) (sym q) in
+              λ i. added (e i) (f i) ∷ rest i;
           without12 = ((λ z. not-12 rs r (sym e ∙ z)), later .without12);
           held = later .held;
         }
@@ -158,9 +168,9 @@ module _ (x : BaselineEntry) (marks : List Bool) (sizes : List ℕ) where
       go (eqb (refusalOfAdding (first ∷ rs) r) 0) refl (λ k. after (rs ++ (r ∷ [])) k c) (λ k. after rs k c)
     where
       go : (z : Bool) → eqb (refusalOfAdding (first ∷ rs) r) 0 ≡ z → (Held (rs ++ (r ∷ [])) t → After (rs ++ (r ∷ [])) cs ys u) →
-          (Held rs t → After rs cs ys u) → After rs (add r ∷ cs) (added (addNumber a) ∷ ys) u
-      go true e more same = one-call rs r (number rs r h w) (rs ++ (r ∷ [])) (rw e) (more (grown rs r h w e))
-      go false e more same = one-call rs r (number rs r h w) rs (rw e) (same (kept rs r h w e))
+          (Held rs t → After rs cs ys u) → After rs (add r ∷ cs) (added (addNumber a) (addResponses a) ∷ ys) u
+      go true e more same = one-call rs r (number rs r h w) (responses rs r h w) (rs ++ (r ∷ [])) (rw e) (more (grown rs r h w e))
+      go false e more same = one-call rs r (number rs r h w) (responses rs r h w) rs (rw e) (same (kept rs r h w e))
   after rs h (reads {ys = ys} w c) =
       let later = after rs h c in
       let told-outcome = reading rs h w in

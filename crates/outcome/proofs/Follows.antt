@@ -3,26 +3,29 @@
 -- Assumes nothing.
 use mathlib.Core.Path.{_≡_, refl, ap}
 use mathlib.Core.Bool.{true, false}
-use mathlib.Core.List.{_∷_}
+use mathlib.Core.List.{[], _∷_}
 use lib.Dec.{eqb}
 use borrow.Author.Tests.{eqb-true}
+use Rattle.laws.specs.Choice.{pick}
 use Rattle.dates.specs.declared.Date.{Date}
 use Rattle.records.specs.declared.Record.{Record}
 use Rattle.endpoints.specs.Values.{isRecorded, dayValue}
 use Rattle.endpoints.specs.StudyRecords.{Baseline, StudyRecord, onStudyDay}
 use Rattle.endpoints.specs.Lawful.{Past, latestDay, deathDay, lawfulBehind}
-use Rattle.endpoints.specs.Visits.{therapyRecorded, judged, progression, counting}
+use Rattle.endpoints.specs.Visits.{therapyRecorded, judged, firstPD, progression, counting}
 use Rattle.endpoints.specs.Pfs.{beforeEvent, lastVisit, lastEvaluable, pfsOf, pfs}
-use Rattle.endpoints.specs.Best.{best, firstResponse, durationOf, duration}
+use Rattle.endpoints.specs.Best.{confirmedCR, confirmedResponse, stable, best, firstResponse, durationOf, duration}
+use Rattle.endpoints.specs.Lines.{linesOf}
 use Rattle.endpoints.specs.Settled.{pfsSettledBy, bestSettledBy, durationSettledBy, pfsSettled, bestSettled, durationSettled, outcome}
 use Rattle.endpoints.specs.Adding.{refusalBehind, afterOwn}
 use Rattle.endpoints.proofs.Refusals.{one-more}
 use Rattle.endpoints.proofs.Calls.{none-of-both}
 use Rattle.held.specs.declared.Subject.{Subject}
 use Rattle.held.specs.Range.{inRange}
-use Rattle.held.proofs.Follows.{maybe, day-of-maybe, eventOf, countedOf, summary}
-use Rattle.placing.proofs.Follows.{refusal-follows, adding-follows}
-use Rattle.outcome.specs.Promises.{refusalHeld, nextSubject, pfsHeld, bestHeld, durationHeld, pfsSettledHeld, bestSettledHeld, outcomeOf}
+use Rattle.held.proofs.Follows.{maybe, day-of-maybe, eventOf, countedOf, best-of-held, summary}
+use Rattle.placing.specs.Promises.{responsesBy, subjectBy, refusalHeld}
+use Rattle.placing.proofs.Follows.{refusal-follows, lines-follow, adding-follows}
+use Rattle.outcome.specs.Promises.{pfsHeld, bestHeld, durationHeld, pfsSettledHeld, bestSettledHeld, outcomeOf}
 
 module _ (randomisation : Date) (b : Baseline) (p : Past) where
   abbrev pub held : Subject
@@ -36,15 +39,20 @@ module _ (randomisation : Date) (b : Baseline) (p : Past) where
     unfolding refusalHeld summary
     refusal-held = rw inside (ap (afterOwn r) (refusal-follows randomisation b p (r .entry) (r .marks) (r .sizes)))
 
+    -- the responses that an addition answers are those of the list
+    pub responses-held : responsesBy held r (refusalHeld held r) ≡ pick (eqb (afterOwn r (refusalBehind b p on-day)) 0) (linesOf b p on-day) []
+    unfolding summary
+    responses-held = λ i. pick (eqb (refusal-held i) 0) (lines-follow randomisation b p (r .entry) (r .marks) (r .sizes) i) []
+
     pub longer-lawful : lawfulBehind b p ≡ true → eqb (afterOwn r (refusalBehind b p on-day)) 0 ≡ true → lawfulBehind b (on-day ∷ p) ≡ true
     longer-lawful l e = one-more b p on-day l .0 (none-of-both r (refusalBehind b p on-day) .0 (eqb-true (afterOwn r (refusalBehind b p on-day)) 0 e) .1)
 
-    pub added-held : lawfulBehind b p ≡ true → eqb (afterOwn r (refusalBehind b p on-day)) 0 ≡ true → nextSubject held r ≡ summary randomisation b (on-day ∷ p)
-    unfolding nextSubject summary
+    pub added-held : lawfulBehind b p ≡ true → eqb (afterOwn r (refusalBehind b p on-day)) 0 ≡ true → subjectBy held r (refusalHeld held r) ≡ summary randomisation b (on-day ∷ p)
+    unfolding summary
     added-held l e = rw (refusal-held, e) (adding-follows randomisation b p (r .entry) (r .marks) (r .sizes) (longer-lawful l e))
 
-    pub refused-held : eqb (afterOwn r (refusalBehind b p on-day)) 0 ≡ false → nextSubject held r ≡ held
-    unfolding nextSubject summary
+    pub refused-held : eqb (afterOwn r (refusalBehind b p on-day)) 0 ≡ false → subjectBy held r (refusalHeld held r) ≡ held
+    unfolding summary
     refused-held e = rw (refusal-held, e)
 
   -- ---- the parts of the outcome and the marks
@@ -63,7 +71,8 @@ module _ (randomisation : Date) (b : Baseline) (p : Past) where
 
   best-held : bestHeld held ≡ best b p
   unfolding summary countedOf best
-  best-held = refl
+  best-held =
+      best-of-held (confirmedCR (counting b p)) (confirmedResponse (counting b p)) (stable (counting b p)) (isRecorded (firstPD (counting b p)))
 
   pub duration-held : durationHeld held ≡ duration b p
   unfolding summary countedOf duration

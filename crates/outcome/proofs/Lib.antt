@@ -1,5 +1,6 @@
 pub mod Follows
 pub mod Within
+pub mod Answers
 pub mod Runs
 pub mod Demand
 mod Returns

@@ -2,7 +2,7 @@
 -- Assumes nothing.
 use mathlib.Core.Path.{_≡_, refl, sym, _∙_, subst}
 use mathlib.Core.Bool.{Bool, true, false}
-use mathlib.Core.List.{List}
+use mathlib.Core.List.{List, []}
 use Prim.Native.Nat.{ℕ, _+_, _-_}
 use native.Mathlib.Omega.{arith}
 use lib.Dec.{leb, eqb}
@@ -12,6 +12,8 @@ use Rattle.records.specs.declared.Entry.{Entry}
 use Rattle.records.specs.declared.Entry.the-variants as E
 use Rattle.records.specs.declared.Record.{Record}
 use Rattle.records.proofs.Passed.{Passes, passes, small-baseline}
+use Rattle.codec.specs.Reading.{refusalOfBytes, recordOfBytes}
+use Rattle.codec.proofs.Fine.{found-fine}
 use Rattle.criteria.specs.Words.{Word}
 use Rattle.endpoints.specs.declared.MaybeDay.{MaybeDay}
 use Rattle.endpoints.specs.declared.MaybeDay.the-variants as M
@@ -27,11 +29,13 @@ use Rattle.held.specs.Laws.{Within, AbsentOrWithin, SubjectWithin}
 use Rattle.held.proofs.Within.{subject-within, in-range}
 use Rattle.opening.proofs.Within.{blank-outside, opening-within}
 use Rattle.placing.specs.declared.AddAnswer.{AddAnswer}
+use Rattle.placing.specs.Lines.{addResponses}
 use Rattle.placing.specs.Refusals.{addNumber}
+use Rattle.placing.specs.Promises.{refusalOnDay, addedOnDay, Answered, refusalHeld, Added, refusalFromBytes, AddedBytes}
 use Rattle.placing.proofs.Within.{adding-within}
 use Rattle.opening.specs.declared.OpenAnswer.{OpenAnswer}
 use Rattle.outcome.specs.declared.OutcomeAnswer.{OutcomeAnswer}
-use Rattle.outcome.specs.Promises.{refusalOnDay, addedOnDay, refusalHeld, nextSubject, Added, refused, outcome, readingValues, pfsHeld, bestHeld, outcomeOf, readingOf, Told}
+use Rattle.outcome.specs.Promises.{refused, outcome, readingValues, pfsHeld, bestHeld, outcomeOf, readingOf, Told}
 use Rattle.outcome.specs.Laws.{DurationWithin, TellsWithin, CallsInRange}
 
 -- ---- opening
@@ -57,15 +61,20 @@ opened-in-range {r} {a} {s} w z = rw (w .made) (in-range (openedSubject r) (open
 -- ---- adding
 
 added-in-range : {s t : Subject} {r : Record} {a : AddAnswer} → Added s r a t → inRange s ≡ true → inRange t ≡ true
-unfolding nextSubject refusalHeld
+unfolding refusalHeld
 added-in-range {s} {t} {r} w h = rw (w .left) (go (eqb (refusalHeld s r) 0) refl)
   where
     go : (x : Bool) → eqb (refusalHeld s r) 0 ≡ x → inRange (pick x (addedOnDay s r) s) ≡ true
     go false e = h
     go true e =
         let none : afterOwn r (refusalOnDay s r) ≡ 0 = rw h at (eqb-true (refusalHeld s r) 0 e) in
+        let within = subject-within s h in
         in-range (addedOnDay s r)
-        (adding-within s (r .entry) (r .marks) (r .sizes) (subject-within s h) (none-of-both r (refusalOnDay s r) .0 none .1))
+        (record {
+          enrolment = within .enrolment;
+          followup =
+              adding-within (s .enrolment) (s .followup) (r .entry) (r .marks) (r .sizes) (within .followup) (none-of-both r (refusalOnDay s r) .0 none .1);
+        })
 
 -- ---- reading
 
@@ -107,12 +116,49 @@ reading-in-range s h = rw h
 tells-within : (s : Subject) → SubjectWithin s → TellsWithin (outcome (outcomeOf s))
 unfolding outcomeOf
 tells-within s w =
-    let p = pfs-within (s .event .progression) (s .death) (s .event .previous .0) (s .event .evaluable) (w .event .progression) (w .death) (w .event .evaluable) in
-    (p, duration-within (bestHeld s) (s .counted .first) (pfsHeld s) (w .counted .first) p)
+    let f = s .followup in
+    let v = w .followup in
+    let p = pfs-within (f .event .progression) (f .death) (f .event .previous .0) (f .event .evaluable) (v .event .progression) (v .death) (v .event .evaluable) in
+    (p, duration-within (bestHeld s) (f .counted .first) (pfsHeld s) (v .counted .first) p)
+
+-- what stands beside a refusal, by its number
+module _ {s t : Subject} {r : Record} {n : ℕ} {a : AddAnswer} (w : Answered s r n a t) (z : addNumber a ≡ 0 → ⊥) where
+  met : eqb n 0 ≡ false
+  met = ne-eqb n 0 (λ e. z (w .answer ∙ e))
+
+  kept : t ≡ s
+  kept = w .left ∙ rw met
+
+  no-responses : addResponses a ≡ []
+  no-responses = w .responses ∙ rw met
 
 not-added : {s t : Subject} {r : Record} {a : AddAnswer} → Added s r a t → (addNumber a ≡ 0 → ⊥) → t ≡ s
-unfolding nextSubject
-not-added {s} {t} {r} w n = w .left ∙ rw (ne-eqb (refusalHeld s r) 0 (λ e. n (w .answer ∙ e)))
+not-added w z = kept w z
+
+from-bytes : {s t : Subject} {bytes : List ℕ} {a : AddAnswer} → AddedBytes s bytes a t → refusalOfBytes bytes ≡ 0 → Added s (recordOfBytes bytes) a t
+unfolding refusalHeld refusalFromBytes
+from-bytes {s} {t} {bytes} {a} w e =
+    let octets = w .octets in
+    let same : refusalFromBytes s bytes ≡ refusalHeld s (recordOfBytes bytes) = rw (e, found-fine bytes octets e) in
+    subst (λ (n : ℕ). Answered s (recordOfBytes bytes) n a t) same (w .added)
+
+not-from-bytes : {s t : Subject} {bytes : List ℕ} {a : AddAnswer} → AddedBytes s bytes a t → inRange s ≡ true → (refusalOfBytes bytes ≡ 0 → ⊥) →
+    (addNumber a ≡ refusalOfBytes bytes) × (addResponses a ≡ []) × (t ≡ s)
+unfolding refusalFromBytes
+not-from-bytes {s} {t} {bytes} {a} w h z =
+    let told : refusalFromBytes s bytes ≡ refusalOfBytes bytes = rw (h, ne-eqb (refusalOfBytes bytes) 0 z) in
+    let number = w .added .answer ∙ told in
+    let refused : addNumber a ≡ 0 → ⊥ = λ e. z (sym number ∙ e) in
+    (number, no-responses (w .added) refused, kept (w .added) refused)
+
+added-bytes-outside : {s t : Subject} {bytes : List ℕ} {a : AddAnswer} → AddedBytes s bytes a t → inRange s ≡ false →
+    (addNumber a ≡ 12) × (addResponses a ≡ []) × (t ≡ s)
+unfolding refusalFromBytes
+added-bytes-outside {s} {t} {bytes} {a} w h =
+    let told : refusalFromBytes s bytes ≡ 12 = rw h in
+    let twelve = w .added .answer ∙ told in
+    let refused : addNumber a ≡ 0 → ⊥ = λ z. let f : ⊥ = omega (arith, twelve, z) in f in
+    (twelve, no-responses (w .added) refused, kept (w .added) refused)
 
 added-outside : {s t : Subject} {r : Record} {a : AddAnswer} → Added s r a t → inRange s ≡ false → addNumber a ≡ 12
 unfolding refusalHeld
@@ -130,9 +176,13 @@ calls-in-range =
       notOpened = λ {r} w n. w .made ∙ rw (ne-eqb (refusalOfOpening r) 0 (λ e. n (w .answer ∙ e)));
       added = added-in-range;
       notAdded = not-added;
+      notAnswered = λ w z. no-responses w z;
+      fromBytes = from-bytes;
+      notFromBytes = not-from-bytes;
       told = λ {s} w h. subst TellsWithin (sym (w .answer ∙ reading-in-range s h)) (tells-within s (subject-within s h));
       addedOutside = added-outside;
       toldOutside = told-outside;
+      addedBytesOutside = added-bytes-outside;
       addedToBlank = λ w. let twelve = added-outside w blank-outside in (twelve, not-added w (λ z. let f : ⊥ = omega (arith, twelve, z) in f));
       toldOfBlank = λ w. told-outside w blank-outside;
     }

@@ -9,22 +9,25 @@ use Rattle.criteria.specs.Sums.{measuredSum, baselineSum, allMeasured}
 use Rattle.criteria.specs.Targets.{allGone, grown, shrunk, targetAnswer}
 use Rattle.criteria.specs.Nadir.{nadirOf, afterVisit}
 use Rattle.criteria.specs.Overall.{overallAnswer}
+use Rattle.criteria.specs.Change.{changeBetween, changeOf}
+use Rattle.endpoints.specs.Lines.{lineOf}
 use Rattle.endpoints.specs.Lawful.{measuredBeyond, fitsBy, fits}
 use Rattle.endpoints.specs.Visits.{judge}
 use Rattle.endpoints.specs.Pfs.{gapLimit, earlyDeath, pfs}
 use Rattle.endpoints.specs.Best.{best, duration}
 use Rattle.endpoints.specs.Settled.{settledFrom, pfsSettledBy, bestSettledBy, durationSettledBy, pfsSettled, bestSettled, durationSettled}
 use Rattle.endpoints.specs.Adding.{refusalBehind, refusalOfAdding}
-use Rattle.held.specs.Range.{inRange}
+use Rattle.held.specs.Range.{enrolmentInRange, followUpInRange, inRange}
 use Rattle.held.specs.Visits.{eventAfter, countedAfter}
 use Rattle.opening.specs.Opening.{blank}
 use Rattle.placing.specs.Added.{answerOn, visitAdded}
 use Rattle.placing.specs.Refusals.{refusalOn}
-use Rattle.outcome.specs.Promises.{refusalHeld, nextSubject, outcomeOf, readingOf}
+use Rattle.placing.specs.Promises.{refusalHeld}
+use Rattle.outcome.specs.Promises.{outcomeOf, readingOf}
 use Rattle.outcome.specs.Examples.{FirstRefusals, ReadAtTheEdges, RepliesAtTheEdges, ValuesOfCases}
 
 pub first-refusals : FirstRefusals
-unfolding leapYear daysInMonth dateExists daysOfYears daysOfMonths dayNumber studyDayOf wrongSize largeMeasured setBeyond sizedUnmeasured withoutDisease outsideLimits notZero refusalOfRead measuredSum allMeasured allGone grown shrunk targetAnswer afterVisit overallAnswer measuredBeyond fitsBy inRange eventAfter countedAfter blank answerOn visitAdded refusalOn refusalHeld nextSubject readingOf
+unfolding leapYear daysInMonth dateExists daysOfYears daysOfMonths dayNumber studyDayOf wrongSize largeMeasured setBeyond sizedUnmeasured withoutDisease outsideLimits notZero refusalOfRead measuredSum allMeasured allGone grown shrunk targetAnswer afterVisit overallAnswer measuredBeyond fitsBy enrolmentInRange followUpInRange inRange eventAfter countedAfter blank answerOn visitAdded refusalOn refusalHeld readingOf
 first-refusals =
     record {
       outOfRange = refl;
@@ -40,7 +43,7 @@ first-refusals =
     }
 
 pub read-at-the-edges : ReadAtTheEdges
-unfolding leapYear daysInMonth dateExists gapLimit earlyDeath settledFrom pfsSettledBy bestSettledBy durationSettledBy inRange outcomeOf readingOf
+unfolding leapYear daysInMonth dateExists gapLimit earlyDeath settledFrom pfsSettledBy bestSettledBy durationSettledBy enrolmentInRange followUpInRange inRange outcomeOf readingOf
 read-at-the-edges =
     record {
       opened = refl;
@@ -59,7 +62,7 @@ read-at-the-edges =
     }
 
 pub replies-at-the-edges : RepliesAtTheEdges
-unfolding leapYear daysInMonth dateExists daysOfYears daysOfMonths dayNumber studyDayOf wrongSize largeMeasured setBeyond sizedUnmeasured withoutDisease outsideLimits notZero refusalOfRead measuredSum baselineSum allMeasured allGone grown shrunk targetAnswer nadirOf overallAnswer measuredBeyond fitsBy fits judge gapLimit earlyDeath pfs best duration settledFrom pfsSettledBy bestSettledBy durationSettledBy pfsSettled bestSettled durationSettled refusalBehind refusalOfAdding
+unfolding leapYear daysInMonth dateExists daysOfYears daysOfMonths dayNumber studyDayOf wrongSize largeMeasured setBeyond sizedUnmeasured withoutDisease outsideLimits notZero refusalOfRead measuredSum baselineSum allMeasured allGone grown shrunk targetAnswer nadirOf overallAnswer measuredBeyond fitsBy fits judge gapLimit earlyDeath pfs best duration settledFrom pfsSettledBy bestSettledBy durationSettledBy pfsSettled bestSettled durationSettled refusalBehind refusalOfAdding changeBetween changeOf lineOf
 replies-at-the-edges = record { replied = refl }
 
 pub values-of-cases : ValuesOfCases

@@ -11,18 +11,22 @@ use Rattle.endpoints.specs.Values.{Outcome}
 use Rattle.endpoints.specs.StudyRecords.{Baseline, StudyRecord, baseline, visit, therapy, death, onStudyDays}
 use Rattle.endpoints.specs.Lawful.{lawful}
 use Rattle.endpoints.specs.Lasting.{outcomeInOrder, LastsInOrder}
-use Rattle.endpoints.specs.Adding.{refusalOfAdding, Call, add, read, acceptedAfter, accepted}
+use Rattle.endpoints.specs.Lines.{VisitLine}
+use Rattle.endpoints.specs.Adding.{refusalOfAdding, responsesOfAdding, Call, add, read, acceptedAfter, accepted}
 use Rattle.held.specs.declared.Subject.{Subject}
 use Rattle.opening.specs.Opening.{openNumber, Opened}
 use Rattle.placing.specs.declared.AddAnswer.{AddAnswer}
+use Rattle.placing.specs.Lines.{addResponses}
 use Rattle.placing.specs.Refusals.{addNumber}
+use Rattle.placing.specs.Promises.{Added}
 use Rattle.opening.specs.declared.OpenAnswer.{OpenAnswer}
 use Rattle.outcome.specs.declared.OutcomeAnswer.{OutcomeAnswer}
-use Rattle.outcome.specs.Promises.{Added, Reading, refused, outcome, readingValues, Told}
+use Rattle.outcome.specs.Promises.{Reading, refused, outcome, readingValues, Told}
 
--- what a call replies, in the paper's numbers and values: an addition 0 where it is done or the refusal's number, a reading the outcome or a refusal
+-- what a call replies, in the paper's numbers and values: an addition 0 where it is done or the refusal's number, with the responses at a visit that was
+-- added and none otherwise; a reading the outcome or a refusal
 pub data Reply : Type 0 where
-  added : ℕ → Reply
+  added : ℕ → List VisitLine → Reply
   told : Reading → Reply
 
 -- a list of calls, from the subject before the first of them to the subject after the last, with their replies. Of each call nothing is known but its
@@ -30,7 +34,7 @@ pub data Reply : Type 0 where
 pub data Calls : Subject → List Call → List Reply → Subject → Type 0 where
   none : {s : Subject} → Calls s [] [] s
   adds : {s t u : Subject} {r : Record} {a : AddAnswer} {cs : List Call} {ys : List Reply} →
-      Added s r a t → Calls t cs ys u → Calls s (add r ∷ cs) (added (addNumber a) ∷ ys) u
+      Added s r a t → Calls t cs ys u → Calls s (add r ∷ cs) (added (addNumber a) (addResponses a) ∷ ys) u
   reads : {s u : Subject} {o : OutcomeAnswer} {cs : List Call} {ys : List Reply} →
       Told s o → Calls s cs ys u → Calls s (read ∷ cs) (told (readingValues o) ∷ ys) u
 
@@ -43,10 +47,11 @@ outcomeOn (visit d v ∷ rs) = refused 7
 outcomeOn (therapy d ∷ rs) = refused 7
 outcomeOn (death d ∷ rs) = refused 7
 
--- the replies from the calls' arguments alone: done, or the first refusal judged against the records accepted so far; their outcome with its marks
+-- the replies from the calls' arguments alone: done, with a visit's responses behind the records accepted so far, or the first refusal judged against them;
+-- their outcome with its marks
 abbrev pub repliesAfter : List Record → List Call → List Reply
 repliesAfter rs [] = []
-repliesAfter rs (add r ∷ cs) = added (refusalOfAdding rs r) ∷ repliesAfter (acceptedAfter rs (add r ∷ [])) cs
+repliesAfter rs (add r ∷ cs) = added (refusalOfAdding rs r) (responsesOfAdding rs r) ∷ repliesAfter (acceptedAfter rs (add r ∷ [])) cs
 repliesAfter rs (read ∷ cs) = told (outcomeOn (onStudyDays rs)) ∷ repliesAfter rs cs
 
 abbrev pub replies : Record → List Call → List Reply
@@ -55,7 +60,7 @@ replies b cs = repliesAfter (b ∷ []) cs
 -- 12 meets no call
 abbrev pub Without12 : List Reply → Type 0
 Without12 [] = Unit {0}
-Without12 (added n ∷ ys) = (n ≡ 12 → ⊥) × Without12 ys
+Without12 (added n ls ∷ ys) = (n ≡ 12 → ⊥) × Without12 ys
 Without12 (told (refused n) ∷ ys) = (n ≡ 12 → ⊥) × Without12 ys
 Without12 (told (outcome o) ∷ ys) = Without12 ys
 

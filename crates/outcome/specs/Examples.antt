@@ -7,8 +7,10 @@ use mathlib.Core.List.{[], _∷_}
 use Prim.Native.Nat.{ℕ}
 use Rattle.dates.specs.Laws.{ymd}
 use Rattle.records.specs.Examples.{visitDated, therapyDated}
+use Rattle.records.specs.declared.Record.{Record}
 use Rattle.records.specs.declared.Status.the-variants as S
-use Rattle.criteria.specs.Words.{Word, CR, PR, SD, PD, NE}
+use Rattle.criteria.specs.Words.{Word, CR, PR, SD, PD, NE, NN}
+use Rattle.criteria.specs.Change.{signed}
 use Rattle.endpoints.specs.declared.BestResponse.the-variants as B
 use Rattle.endpoints.specs.declared.DurationAnswer.the-variants as D
 use Rattle.endpoints.specs.declared.MaybeDay.{MaybeDay}
@@ -22,11 +24,15 @@ use Rattle.held.specs.declared.CountingVisits.{CountingVisits}
 use Rattle.held.specs.declared.Subject.{Subject}
 use Rattle.held.specs.Examples.{day, onDay, events, counts, noEvents, noCounts, disease, subjectWith, printedOpened, printedVisited}
 use Rattle.opening.specs.Opening.{blank}
+use Rattle.placing.specs.Promises.{subjectBy, refusalHeld}
 use Rattle.placing.specs.Examples.{treated, died}
-use Rattle.outcome.specs.Promises.{refusalHeld, nextSubject, Reading, refused, outcome, readingValues, readingOf}
+use Rattle.outcome.specs.Promises.{Reading, refused, outcome, readingValues, readingOf}
 use Rattle.outcome.specs.Demand3.{added, told, replies}
 use Rattle.outcome.specs.declared.OutcomeAnswer.the-variants as A
 use Rattle.outcome.specs.declared.OutcomeResult.{OutcomeResult}
+
+abbrev pub after : Subject → Record → Subject
+after s r = subjectBy s r (refusalHeld s r)
 
 pub record FirstRefusals : Type 0 where
   -- 12 before the record's own, and these before 8 to 11
@@ -36,10 +42,10 @@ pub record FirstRefusals : Type 0 where
   pub secondBaseline : refusalHeld printedOpened (printedBaseline (ymd 2020 1 1)) ≡ 8
   pub fitting : refusalHeld printedOpened visited ≡ 0
   -- the subject keeps every value where a refusal meets
-  pub keptEarly : nextSubject printedVisited (therapyDated (ymd 2020 2 11)) ≡ printedVisited
-  pub keptUnmeasured : nextSubject printedVisited (visitDated (ymd 2020 3 25) S.NN false [] (12 ∷ [])) ≡ printedVisited
-  pub keptOutOfRange : nextSubject blank (therapyDated (ymd 2020 2 11)) ≡ blank
-  pub next : nextSubject printedOpened visited ≡ printedVisited
+  pub keptEarly : after printedVisited (therapyDated (ymd 2020 2 11)) ≡ printedVisited
+  pub keptUnmeasured : after printedVisited (visitDated (ymd 2020 3 25) S.NN false [] (12 ∷ [])) ≡ printedVisited
+  pub keptOutOfRange : after blank (therapyDated (ymd 2020 2 11)) ≡ blank
+  pub next : after printedOpened visited ≡ printedVisited
   -- reading meets 12 only
   pub readOutOfRange : readingOf blank ≡ refused 12
 
@@ -60,20 +66,20 @@ pub record ReadAtTheEdges : Type 0 where
   pub afterTherapy : readingOf treated ≡ reads (censored 43) SD noDuration false true true
   pub afterDeath : readingOf died ≡ reads (event 50) SD noDuration true true true
   -- PR 43, PR 85, therapy 90: S 0 1 0
-  pub responded : readingOf (heldWith true 90 true M.Absent (events M.Absent 85 (onDay 85)) (counts (onDay 43) M.Absent false true true false))
+  pub responded : readingOf (heldWith true 90 true M.Absent (events M.Absent 85 (onDay 85)) (counts (onDay 43) M.Absent B.PR))
       ≡ reads (censored 85) PR (forDays CENSORED 43) false true false
   -- SD 127: nothing is settled, though it is later than day 93
-  pub late : readingOf (heldWith true 127 false M.Absent (events M.Absent 127 (onDay 127)) (counts M.Absent M.Absent false false true false))
+  pub late : readingOf (heldWith true 127 false M.Absent (events M.Absent 127 (onDay 127)) (counts M.Absent M.Absent B.SD))
       ≡ reads (censored 127) SD noDuration false false false
   -- CR 43, CR 71: S 0 1 0
-  pub complete : readingOf (heldWith true 71 false M.Absent (events M.Absent 71 (onDay 71)) (counts (onDay 43) (onDay 43) true true true false))
+  pub complete : readingOf (heldWith true 71 false M.Absent (events M.Absent 71 (onDay 71)) (counts (onDay 43) (onDay 43) B.CR))
       ≡ reads (censored 71) CR (forDays CENSORED 29) false true false
   -- PD 30: best is PD
-  pub progressed : readingOf (heldWith true 30 false M.Absent (events (onDay 30) 1 M.Absent) (counts M.Absent M.Absent false false false true))
+  pub progressed : readingOf (heldWith true 30 false M.Absent (events (onDay 30) 1 M.Absent) (counts M.Absent M.Absent B.PD))
       ≡ reads (event 30) PD noDuration true true true
   -- PR 43, PR 85, PD 127 as in the printed example, P EVENT 127, B PR, D EVENT 85, S 1 1 1, and a death of day 130 behind them
   pub printed : readingOf
-      (heldWith true 130 false (onDay 130) (events (onDay 127) 85 (onDay 85)) (counts (onDay 43) M.Absent false true true true))
+      (heldWith true 130 false (onDay 130) (events (onDay 127) 85 (onDay 85)) (counts (onDay 43) M.Absent B.PR))
       ≡ reads (event 127) PR (forDays EVENT 85) true true true
   -- baseline missing: alone; a visit of day 43 and death 50; a therapy of day 92, and one of day 93
   pub missingAlone : readingOf (heldWith false 1 false M.Absent noEvents noCounts)
@@ -88,13 +94,13 @@ pub record ReadAtTheEdges : Type 0 where
   pub lateDeath : readingOf (heldWith true 120 false (onDay 120) (events M.Absent 43 M.Absent) noCounts)
       ≡ reads (censored 1) NE noDuration true true true
 
--- the replies of a list of calls on the printed baseline: the visit of day 43 added, read, added again (10), and a therapy on its day
+-- the replies of a list of calls on the printed baseline: the visit of day 43 added, with its responses, read, added again (10), and a therapy on its day
 pub record RepliesAtTheEdges : Type 0 where
   pub replied : replies (printedBaseline (ymd 2020 1 1)) (add visited ∷ read ∷ add visited ∷ add (therapyDated (ymd 2020 2 12)) ∷ read ∷ [])
-      ≡ added 0
+      ≡ added 0 (record { day = 43; target = PR; nontarget = NN; overall = PR; change = signed true 400 } ∷ [])
       ∷ told (reads (censored 43) SD noDuration false false false)
-      ∷ added 10
-      ∷ added 0
+      ∷ added 10 []
+      ∷ added 0 []
       ∷ told (reads (censored 43) SD noDuration false true true)
       ∷ []
 

@@ -2,7 +2,10 @@
 -- Assumes nothing.
 use mathlib.Core.Path.{_≡_}
 use mathlib.Core.Bool.{true, false}
+use mathlib.Core.List.{List, []}
+use Prim.Native.Nat.{ℕ}
 use Rattle.records.specs.declared.Record.{Record}
+use Rattle.codec.specs.Reading.{refusalOfBytes, recordOfBytes}
 use Rattle.endpoints.specs.Values.{Duration, noDuration, forDays}
 use Rattle.held.specs.declared.Subject.{Subject}
 use Rattle.held.specs.Range.{inRange}
@@ -10,9 +13,11 @@ use Rattle.opening.specs.Opening.{blank, openNumber, Opened}
 use Rattle.held.specs.Laws.{Within}
 use Rattle.placing.specs.declared.AddAnswer.{AddAnswer}
 use Rattle.placing.specs.Refusals.{addNumber}
+use Rattle.placing.specs.Lines.{addResponses}
+use Rattle.placing.specs.Promises.{Added, AddedBytes}
 use Rattle.opening.specs.declared.OpenAnswer.{OpenAnswer}
 use Rattle.outcome.specs.declared.OutcomeAnswer.{OutcomeAnswer}
-use Rattle.outcome.specs.Promises.{Added, Reading, refused, outcome, readingValues, Told}
+use Rattle.outcome.specs.Promises.{Reading, refused, outcome, readingValues, Told}
 
 abbrev pub DurationWithin : Duration → Type 0
 DurationWithin noDuration = Unit {0}
@@ -30,10 +35,18 @@ pub record CallsInRange : Type 0 where
   -- adding leaves every subject in range in range, and keeps every value where it refuses
   pub added : {s t : Subject} {r : Record} {a : AddAnswer} → Added s r a t → inRange s ≡ true → inRange t ≡ true
   pub notAdded : {s t : Subject} {r : Record} {a : AddAnswer} → Added s r a t → (addNumber a ≡ 0 → ⊥) → t ≡ s
+  -- a refusal carries its number and nothing else
+  pub notAnswered : {s t : Subject} {r : Record} {a : AddAnswer} → Added s r a t → (addNumber a ≡ 0 → ⊥) → addResponses a ≡ []
+  -- an addition from bytes is the addition of the record that they are read as; where reading refuses them, or 12 meets the subject, it keeps every value
+  pub fromBytes : {s t : Subject} {bytes : List ℕ} {a : AddAnswer} → AddedBytes s bytes a t → refusalOfBytes bytes ≡ 0 → Added s (recordOfBytes bytes) a t
+  pub notFromBytes : {s t : Subject} {bytes : List ℕ} {a : AddAnswer} → AddedBytes s bytes a t → inRange s ≡ true → (refusalOfBytes bytes ≡ 0 → ⊥) →
+      (addNumber a ≡ refusalOfBytes bytes) × (addResponses a ≡ []) × (t ≡ s)
   -- every day and duration read from a subject in range is in range
   pub told : {s : Subject} {o : OutcomeAnswer} → Told s o → inRange s ≡ true → TellsWithin (readingValues o)
   -- 12 meets every other subject, the blank among them, before the record
   pub addedOutside : {s t : Subject} {r : Record} {a : AddAnswer} → Added s r a t → inRange s ≡ false → addNumber a ≡ 12
   pub toldOutside : {s : Subject} {o : OutcomeAnswer} → Told s o → inRange s ≡ false → readingValues o ≡ refused 12
+  pub addedBytesOutside : {s t : Subject} {bytes : List ℕ} {a : AddAnswer} → AddedBytes s bytes a t → inRange s ≡ false →
+      (addNumber a ≡ 12) × (addResponses a ≡ []) × (t ≡ s)
   pub addedToBlank : {t : Subject} {r : Record} {a : AddAnswer} → Added blank r a t → (addNumber a ≡ 12) × (t ≡ blank)
   pub toldOfBlank : {o : OutcomeAnswer} → Told blank o → readingValues o ≡ refused 12

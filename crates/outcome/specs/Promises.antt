@@ -1,48 +1,19 @@
--- Document 01, "Contracts" a and "Where a call stops": what adding and reading the outcome promise, for every record value and every subject.
+-- Document 01, "Contracts" a and "Where a call stops", 12: what reading the outcome promises, for every subject.
 -- Assumes nothing.
 use mathlib.Core.Path.{_≡_}
 use mathlib.Core.Bool.{Bool}
 use Prim.Native.Nat.{ℕ}
-use lib.Dec.{eqb}
 use Rattle.laws.specs.Choice.{pick}
-use Rattle.records.specs.declared.Record.{Record}
 use Rattle.criteria.specs.Words.{Word}
 use Rattle.endpoints.specs.Values.{isRecorded, Pfs, Duration, Outcome, dayValue, pfsValues, bestWord, durationValues}
 use Rattle.endpoints.specs.Pfs.{pfsOf}
-use Rattle.endpoints.specs.Best.{bestOf, durationOf}
+use Rattle.endpoints.specs.Best.{durationOf}
 use Rattle.endpoints.specs.Settled.{pfsSettledBy, bestSettledBy, durationSettledBy}
-use Rattle.endpoints.specs.Adding.{afterOwn}
 use Rattle.held.specs.declared.Subject.{Subject}
 use Rattle.held.specs.Range.{inRange}
-use Rattle.placing.specs.declared.AddAnswer.{AddAnswer}
-use Rattle.placing.specs.Added.{dayOn, entryAdded}
-use Rattle.placing.specs.Refusals.{addNumber, refusalOn}
 use Rattle.outcome.specs.declared.OutcomeResult.{OutcomeResult}
 use Rattle.outcome.specs.declared.OutcomeAnswer.{OutcomeAnswer}
 use Rattle.outcome.specs.declared.OutcomeAnswer.the-variants as A
-
--- ---- adding
-
--- 8 to 11, and the subject after a record, on the study day of its date
-abbrev pub refusalOnDay : Subject → Record → ℕ
-refusalOnDay s r = refusalOn s (dayOn s r) (r .entry) (r .marks)
-
-abbrev pub addedOnDay : Subject → Record → Subject
-addedOnDay s r = entryAdded s (dayOn s r) (r .entry) (r .marks) (r .sizes)
-
--- 12 before the record, then 3 to 5, then 8 to 11; 0 for none
-unfoldable pub refusalHeld : Subject → Record → ℕ
-refusalHeld s r = pick (inRange s) (afterOwn r (refusalOnDay s r)) 12
-
--- the subject keeps every value where a refusal meets
-unfoldable pub nextSubject : Subject → Record → Subject
-nextSubject s r = pick (eqb (refusalHeld s r) 0) (addedOnDay s r) s
-
-pub record Added (s : Subject) (r : Record) (a : AddAnswer) (t : Subject) : Type 0 where
-  pub answer : addNumber a ≡ refusalHeld s r
-  pub left : t ≡ nextSubject s r
-
--- ---- reading the outcome
 
 -- a refusal's number, or the outcome
 pub data Reading : Type 0 where
@@ -66,21 +37,25 @@ readingValues (A.Read o) = outcome (outcomeValues o)
 
 -- the parts and the marks from what is held
 abbrev pub pfsHeld : Subject → Pfs
-pfsHeld s = pfsOf (dayValue (s .event .progression)) (dayValue (s .death)) (s .event .previous .0) (dayValue (s .event .evaluable))
+pfsHeld s =
+    pfsOf (dayValue (s .followup .event .progression)) (dayValue (s .followup .death)) (s .followup .event .previous .0)
+    (dayValue (s .followup .event .evaluable))
 
 abbrev pub bestHeld : Subject → Word
-bestHeld s = bestOf (s .counted .cr) (s .counted .pr) (s .counted .sd) (s .counted .pd)
+bestHeld s = bestWord (s .followup .counted .best)
 
 abbrev pub durationHeld : Subject → Duration
-durationHeld s = durationOf (bestHeld s) (dayValue (s .counted .first)) (pfsHeld s)
+durationHeld s = durationOf (bestHeld s) (dayValue (s .followup .counted .first)) (pfsHeld s)
 
 abbrev pub pfsSettledHeld : Subject → Bool
 pfsSettledHeld s =
-    pfsSettledBy (s .baseline .assessed) (isRecorded (dayValue (s .event .progression))) (isRecorded (dayValue (s .death))) (s .latest .0)
+    pfsSettledBy (s .enrolment .baseline .assessed) (isRecorded (dayValue (s .followup .event .progression))) (isRecorded (dayValue (s .followup .death)))
+    (s .followup .latest .0)
 
 abbrev pub bestSettledHeld : Subject → Bool
 bestSettledHeld s =
-    bestSettledBy (isRecorded (dayValue (s .event .progression))) (s .therapy) (isRecorded (dayValue (s .death))) (s .baseline .assessed) (bestHeld s)
+    bestSettledBy (isRecorded (dayValue (s .followup .event .progression))) (s .followup .therapy) (isRecorded (dayValue (s .followup .death)))
+    (s .enrolment .baseline .assessed) (bestHeld s)
 
 unfoldable pub outcomeOf : Subject → Outcome
 outcomeOf s =

@@ -6,7 +6,6 @@ use super::settled::best_settled;
 use super::settled::duration_settled;
 use super::settled::pfs_settled;
 use held::Subject;
-use results::best_of;
 use results::duration_of;
 use results::is_recorded;
 use results::pfs_of;
@@ -16,19 +15,21 @@ ghost use Rattle.outcome.specs.Promises.{outcomeValues, outcomeOf, Told}
 fn outcome_of(s: Subject) -> OutcomeResult
     ensures { λ o. ⌜ outcomeValues o ≡ outcomeOf s ⌝ }
 {
-    let death = s.death;
-    let event = s.event;
+    let followup = s.followup;
+    let death = followup.death;
+    let event = followup.event;
     let progression = event.progression;
     let evaluable = event.evaluable;
-    let counted = s.counted;
+    let counted = followup.counted;
     let first = counted.first;
+    let best = counted.best;
     let pfs = pfs_of(progression, death, event.previous, evaluable);
-    let best = best_of(counted.cr, counted.pr, counted.sd, counted.pd);
     let duration = duration_of(best, first, pfs);
     let progressed = is_recorded(progression);
     let dead = is_recorded(death);
-    let pfs_mark = pfs_settled(s.baseline.assessed, progressed, dead, s.latest);
-    let best_mark = best_settled(progressed, s.therapy, dead, s.baseline.assessed, best);
+    let assessed = s.enrolment.baseline.assessed;
+    let pfs_mark = pfs_settled(assessed, progressed, dead, followup.latest);
+    let best_mark = best_settled(progressed, followup.therapy, dead, assessed, best);
     let duration_mark = duration_settled(duration, pfs_mark, best_mark);
     let settled = SettledMarks {
         pfs: pfs_mark,
@@ -46,7 +47,12 @@ fn outcome_of(s: Subject) -> OutcomeResult
 pub fn read_outcome(s: Subject) -> OutcomeAnswer
     ensures { λ o. ⌜ Told s o ⌝ }
 {
-    if !held::in_range(s) {
+    let enrolment = s.enrolment;
+    let followup = s.followup;
+    if !held::enrolment_in_range(enrolment) {
+        return OutcomeAnswer::OutOfRange;
+    }
+    if !held::followup_in_range(followup) {
         return OutcomeAnswer::OutOfRange;
     }
     let outcome = outcome_of(s);

@@ -2,13 +2,14 @@
 use dates::StudyDay;
 use endpoints::BestResponse;
 use endpoints::DurationAnswer;
+use results::EARLY_DEATH;
 ghost use mathlib.Core.Path.{_≡_};
 ghost use Rattle.endpoints.specs.Values.{bestWord, durationValues};
 ghost use Rattle.endpoints.specs.Best.{isCR};
 ghost use Rattle.endpoints.specs.Settled.{pfsSettledBy, bestSettledBy, durationSettledBy};
 
-// Two days more than the limit of an early death: from this day on no death is an early one.
-const SETTLED_FROM: u32 = 93;
+// From this day on no death is an early one.
+const SETTLED_FROM: u32 = EARLY_DEATH + 2;
 
 pub(crate) fn pfs_settled(assessed: bool, progressed: bool, dead: bool, latest: StudyDay) -> bool
     ensures { λ r. ⌜ r ≡ pfsSettledBy assessed progressed dead (latest .0) ⌝ }

@@ -20,6 +20,7 @@ use Rattle.endpoints.specs.Visits.{visitsOf, therapyRecorded, Judged, judge, ju
 use Rattle.endpoints.specs.Lines.{lineOf, linesOf}
 use Rattle.endpoints.specs.Adding.{refusalBehind}
 use Rattle.endpoints.proofs.Behind.{absent, next, latest-is-last}
+use Rattle.held.specs.declared.Subject.{Subject}
 use Rattle.held.specs.Visits.{countedAfter}
 use Rattle.held.proofs.Ordered.{Falling, counting-falls}
 use Rattle.held.proofs.Follows.{at, maybe, day-of-maybe, eventOf, countedOf, event-follows, counted-follows, summary}
@@ -28,8 +29,11 @@ use Rattle.placing.specs.Lines.{linesOn}
 use Rattle.placing.specs.Refusals.{refusalOn}
 
 module _ (randomisation : Date) (b : Baseline) (p : Past) where
+  abbrev pub held : Subject
+  held = summary randomisation b p
+
   pub refusal-follows : (e : Entry) (marks : List Bool) (sizes : List ℕ) →
-      refusalOn (summary randomisation b p) (heldDay randomisation (dateOf e)) e marks ≡ refusalBehind b p (entryOnStudyDay randomisation e marks sizes)
+      refusalOn (held .enrolment) (held .followup) (heldDay randomisation (dateOf e)) e marks ≡ refusalBehind b p (entryOnStudyDay randomisation e marks sizes)
   unfolding refusalOn refusalBehind summary fits
   refusal-follows (E.Baseline x) marks sizes = refl
   refusal-follows (E.Visit v) marks sizes = rw (day-of-maybe (deathDay p))
@@ -37,7 +41,7 @@ module _ (randomisation : Date) (b : Baseline) (p : Past) where
   refusal-follows (E.Death d) marks sizes = rw (day-of-maybe (deathDay p))
 
   pub lines-follow : (e : Entry) (marks : List Bool) (sizes : List ℕ) →
-      linesOn (summary randomisation b p) (heldDay randomisation (dateOf e)) e marks sizes ≡ linesOf b p (entryOnStudyDay randomisation e marks sizes)
+      linesOn (held .enrolment) (held .followup) (heldDay randomisation (dateOf e)) e marks sizes ≡ linesOf b p (entryOnStudyDay randomisation e marks sizes)
   unfolding summary answerOn lineOf
   lines-follow (E.Baseline x) marks sizes = refl
   lines-follow (E.Visit v) marks sizes = refl
@@ -54,7 +58,9 @@ module _ (randomisation : Date) (b : Baseline) (p : Past) where
       go false = counted-follows j (counting b p) s
 
   pub adding-follows : (e : Entry) (marks : List Bool) (sizes : List ℕ) → lawfulBehind b (entryOnStudyDay randomisation e marks sizes ∷ p) ≡ true →
-      entryAdded (summary randomisation b p) (heldDay randomisation (dateOf e)) e marks sizes ≡ summary randomisation b (entryOnStudyDay randomisation e marks sizes ∷ p)
+      _≡_ {A = Subject}
+      (record { enrolment = held .enrolment; followup = entryAdded (held .enrolment) (held .followup) (heldDay randomisation (dateOf e)) e marks sizes })
+      (summary randomisation b (entryOnStudyDay randomisation e marks sizes ∷ p))
   unfolding summary visitAdded therapyAdded deathAdded answerOn judge eventOf
   adding-follows (E.Baseline x) marks sizes l = absurd (never (sym (next b p (entryOnStudyDay randomisation (E.Baseline x) marks sizes) l .place)))
   adding-follows (E.Visit v) marks sizes l =
@@ -68,21 +74,14 @@ module _ (randomisation : Date) (b : Baseline) (p : Past) where
       let counted = counted-unless-closed _ (countingClosed b p) j closed (counting-falls b p (next b p r l .before) .1) in
       λ i.
       record {
-        randomisation = randomisation;
-        nontarget = b .nontarget;
-        baseline = disease b;
-        earlier = earlier i;
-        latest = latest i;
-        therapy = therapyRecorded p;
-        death = maybe (deathDay p);
-        event = event i;
-        counted = counted i;
+        enrolment = held .enrolment;
+        followup = record { earlier = earlier i; latest = latest i; therapy = therapyRecorded p; death = maybe (deathDay p); event = event i; counted = counted i };
       }
   adding-follows (E.Therapy d) marks sizes l =
       let latest = ap at (sym (latest-is-last b p (entryOnStudyDay randomisation (E.Therapy d) marks sizes) l)) in
-      λ i. later (summary randomisation b p) (latest i) true (maybe (deathDay p))
+      λ i. record { enrolment = held .enrolment; followup = later (held .followup) (latest i) true (maybe (deathDay p)) }
   adding-follows (E.Death d) marks sizes l =
       let r = entryOnStudyDay randomisation (E.Death d) marks sizes in
       let latest = ap at (sym (latest-is-last b p r l)) in
       let death = ap (λ (x : Day). maybe (x orElse on (studyDay randomisation d))) (sym (absent (deathDay p) (next b p r l .alive))) in
-      λ i. later (summary randomisation b p) (latest i) (therapyRecorded p) (death i)
+      λ i. record { enrolment = held .enrolment; followup = later (held .followup) (latest i) (therapyRecorded p) (death i) }

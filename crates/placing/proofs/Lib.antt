@@ -1,5 +1,5 @@
 pub mod Follows
 pub mod Within
-pub mod Follow
 mod Returns
+mod Called
 pub mod WorkedExamples

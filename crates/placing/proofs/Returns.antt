@@ -3,47 +3,50 @@
 use mathlib.Core.Path.{_≡_, refl, sym, _∙_, ap}
 use mathlib.Core.Bool.{Bool, true, false, not, _&&_, _||_, Bool·beq}
 use mathlib.Core.List.{List, [], _∷_}
-use Prim.Native.Nat.{ℕ, suc, _-_}
+use Prim.Native.Nat.{ℕ, suc, _-_, _<_}
 use native.Mathlib.Omega.{arith}
 use lib.Dec.{leb, ltb, eqb}
-use borrow.Author.Tests.{ne-eqb}
-use Rattle.laws.specs.Choice.{pick}
+use borrow.Author.Tests.{ne-eqb, eqb-false, lt-leb, not-true, not-false}
+use Rattle.laws.specs.Choice.{both, pick}
 use Rattle.dates.specs.declared.Date.{Date}
 use Rattle.dates.specs.declared.StudyDay.{StudyDay}
-use Rattle.dates.specs.declared.StudyDayAnswer.{StudyDayAnswer}
-use Rattle.dates.specs.declared.StudyDayAnswer.the-variants as T
-use Rattle.dates.specs.Answers.{Counted, studyDayValues, studyDayOf}
 use Rattle.records.specs.declared.Status.{Status}
 use Rattle.records.specs.declared.Status.the-variants as S
 use Rattle.records.specs.declared.Entry.{Entry}
 use Rattle.records.specs.declared.Entry.the-variants as E
 use Rattle.records.specs.declared.BaselineEntry.{BaselineEntry}
 use Rattle.records.specs.declared.VisitEntry.{VisitEntry}
-use Rattle.records.specs.declared.Record.{Record}
-use Rattle.records.specs.Form.{dateOf, statusNumber}
+use Rattle.records.specs.Form.{statusNumber}
 use Rattle.criteria.specs.declared.Overall.{Overall}
-use Rattle.criteria.specs.Words.{statusWord, overallWord}
+use Rattle.criteria.specs.Words.{targetWord, statusWord, overallWord}
+use Rattle.criteria.specs.Change.{changeValues}
 use Rattle.response.specs.declared.VisitAnswer.{VisitAnswer}
-use Rattle.response.specs.declared.Measured.{Measured}
-use Rattle.response.specs.Judging.{measuredOf, JudgesVisit}
+use Rattle.response.specs.Judging.{JudgesVisit}
 use Rattle.endpoints.specs.Values.{isRecorded, dayValue}
 use Rattle.endpoints.specs.Lawful.{measuredBeyond, fitsBy}
 use Rattle.endpoints.specs.Lines.{VisitLine}
-use Rattle.held.specs.declared.EventDays.{EventDays}
 use Rattle.held.specs.declared.CountingVisits.{CountingVisits}
-use Rattle.held.specs.declared.Subject.{Subject}
+use Rattle.held.specs.declared.EventDays.{EventDays}
+use Rattle.held.specs.declared.Enrolment.{Enrolment}
+use Rattle.held.specs.declared.FollowUp.{FollowUp}
+use Rattle.held.specs.Visits.{eventAfter, countedAfter}
 use Rattle.placing.specs.declared.AddAnswer.{AddAnswer}
 use Rattle.placing.specs.declared.AddAnswer.the-variants as A
-use Rattle.placing.specs.declared.JudgedVisit.{JudgedVisit}
-use Rattle.placing.specs.declared.MaybeVisit.the-variants as J
-use Rattle.placing.specs.declared.PlaceResult.{PlaceResult}
-use Rattle.held.specs.Visits.{eventAfter, countedAfter}
-use Rattle.placing.specs.Added.{heldDay, dayOn, answerAdded, measuredAdded, therapyAdded, deathAdded}
-use Rattle.placing.specs.Lines.{judgedValues, visitValues, lineJudged, lineBy, Advanced}
-use Rattle.placing.proofs.Follow.{measured-as}
-use Rattle.placing.specs.Refusals.{addNumber, refusalBy, refusalOn, mayFollow, Behind, PlacesLater, PlacesOther, PlacesEntry, Places}
+use Rattle.placing.specs.declared.Dated.{Dated}
+use Rattle.placing.specs.declared.Step.{Step}
+use Rattle.placing.specs.declared.VisitResponse.{VisitResponse}
+use Rattle.placing.specs.Added.{answerOn, answerAdded, visitAdded, therapyAdded, deathAdded, entryAdded}
+use Rattle.placing.specs.Lines.{responseValues, addResponses, linesOn}
+use Rattle.placing.specs.Refusals.{addNumber, refusalBy, refusalOn, firstRefusal}
+use Rattle.placing.specs.Stepping.{StepsBy, Steps, StepsLater}
 
--- ---- whether a status is NA
+-- ---- whether a visit fits
+
+-- with five targets or more, no place is beyond them
+pub none-beyond : (count : ℕ) (measured : List Bool) → 4 < count → false ≡ measuredBeyond count measured
+unfolding measuredBeyond
+none-beyond count measured h =
+    rw (lt-leb count 0 (omega arith), lt-leb count 1 (omega arith), lt-leb count 2 (omega arith), lt-leb count 3 (omega arith), lt-leb count 4 (omega arith))
 
 pub status-na : (s : Status) → s ≡ S.NA → true ≡ eqb (statusNumber s) 0
 status-na s q = rw q
@@ -61,8 +64,6 @@ module _ (s : Status) where
   pub status-ne : s ≡ S.NE → false ≡ eqb (statusNumber s) 0
   status-ne q = rw q
 
--- ---- whether a visit fits
-
 pub fits-by : (count : ℕ) (nontarget : Bool) (s : Status) (measured : List Bool) (x y : Bool) → x ≡ measuredBeyond count measured →
     y ≡ eqb (statusNumber s) 0 → (not x && not (Bool·beq nontarget y)) ≡ fitsBy count nontarget s measured
 unfolding fitsBy
@@ -71,159 +72,151 @@ fits-by count true s measured x false xq yq = rw (← xq, ← yq)
 fits-by count false s measured x true xq yq = rw (← xq, ← yq)
 fits-by count false s measured x false xq yq = rw (← xq, ← yq)
 
--- ---- whether a visit may follow
+-- ---- whether a subject is in range
 
-status-as-tested : (nontarget na : Bool) → not (Bool·beq nontarget na) ≡ pick nontarget (not na) na
-status-as-tested true true = refl
-status-as-tested true false = refl
-status-as-tested false true = refl
-status-as-tested false false = refl
+module _ (x y a : Bool) (p : a ≡ x) where
+  pub both-in : (b : Bool) → a ≡ true → b ≡ y → b ≡ both x y
+  both-in b h q = rw (← p, h) q
 
-pub may-follow : (s : Subject) (day : StudyDay) (status : Status) (dead na : Bool) → dead ≡ isRecorded (dayValue (s .death)) →
-    na ≡ eqb (statusNumber status) 0 →
-    (not dead && (ltb (s .latest .0) (day .0) && not (Bool·beq (s .nontarget) na))) ≡ mayFollow s day status
-unfolding mayFollow
-may-follow s day status dead na dq nq = rw (dq, status-as-tested (s .nontarget) na, nq)
+  pub first-out : a ≡ false → a ≡ both x y
+  first-out h = h ∙ rw (← p, h)
 
--- ---- the subject after a record
+-- ---- the follow-up after a visit
 
 pub counted-or-closed : (closed : Bool) (c r : CountingVisits) (d : StudyDay) (answer : Overall) → closed ≡ false →
     r ≡ countedAfter c d (overallWord answer) → r ≡ pick closed c (countedAfter c d (overallWord answer))
 counted-or-closed closed c r d answer q h = h ∙ rw q
 
-pub visit-made : (s : Subject) (day : StudyDay) (a : VisitAnswer) (x : Bool) (e : EventDays) (c : CountingVisits) →
-    x ≡ isRecorded (dayValue (s .event .progression)) → e ≡ eventAfter (s .event) day (overallWord (a .overall)) →
-    c ≡ pick (s .therapy || x) (s .counted) (countedAfter (s .counted) day (overallWord (a .overall))) →
-    record {
-      randomisation = s .randomisation;
-      nontarget = s .nontarget;
-      baseline = s .baseline;
-      earlier = a .after;
-      latest = day;
-      therapy = s .therapy;
-      death = s .death;
-      event = e;
-      counted = c;
-    }
-    ≡ answerAdded s day (a .after) (overallWord (a .overall))
-visit-made s day a x e c p q r = rw (q, r, p)
+pub visit-made : (f : FollowUp) (day : StudyDay) (a : VisitAnswer) (x : Bool) (e : EventDays) (c : CountingVisits) →
+    x ≡ isRecorded (dayValue (f .event .progression)) → e ≡ eventAfter (f .event) day (overallWord (a .overall)) →
+    c ≡ pick (f .therapy || x) (f .counted) (countedAfter (f .counted) day (overallWord (a .overall))) →
+    record { earlier = a .after; latest = day; therapy = f .therapy; death = f .death; event = e; counted = c }
+    ≡ answerAdded f day (a .after) (overallWord (a .overall))
+visit-made f day a x e c p q r = rw (q, r, p)
 
--- ---- study days
+-- ---- the first refusal
 
-module _ (randomisation d : Date) (a : StudyDayAnswer) (e : studyDayValues a ≡ studyDayOf d randomisation) where
-  pub day-counted : (x : StudyDay) → a ≡ T.Day x → x ≡ heldDay randomisation d
-  day-counted x q = let h : x .0 ≡ studyDayOf d randomisation .day = rw q at (ap (λ (n : Counted). n .day) e) in ap (λ (n : ℕ). record { 0 = n }) h
+module _ (inside : Bool) (own behind : AddAnswer) where
+  pub outside-first : not inside ≡ true → 12 ≡ firstRefusal inside (addNumber own) (addNumber behind)
+  outside-first h = rw (not-true inside h)
 
-  pub day-before : a ≡ T.BeforeRandomisation → record { 0 = 0 } ≡ heldDay randomisation d
-  day-before q = let h : _≡_ {A = ℕ} 0 (studyDayOf d randomisation .day) = rw q at (ap (λ (n : Counted). n .day) e) in ap (λ (n : ℕ). record { 0 = n }) h
+  module _ (h : not inside ≡ false) (n : ℕ) (q : n ≡ addNumber own) where
+    pub own-first : (n ≡ 0 → ⊥) → addNumber own ≡ firstRefusal inside (addNumber own) (addNumber behind)
+    own-first z = rw (not-false inside h, ne-eqb (addNumber own) 0 (λ e. z (q ∙ e)))
 
-  pub day-of-none : a ≡ T.NoSuchDate → record { 0 = 0 } ≡ heldDay randomisation d
-  day-of-none q = let h : _≡_ {A = ℕ} 0 (studyDayOf d randomisation .day) = rw q at (ap (λ (n : Counted). n .day) e) in ap (λ (n : ℕ). record { 0 = n }) h
+    pub behind-first : n ≡ 0 → addNumber behind ≡ firstRefusal inside (addNumber own) (addNumber behind)
+    behind-first z = let none : addNumber own ≡ 0 = sym q ∙ z in rw (not-false inside h, none)
 
-pub on-its-day : (s : Subject) (r : Record) (date : Date) (day : StudyDay) (x : PlaceResult) → date ≡ dateOf (r .entry) → day ≡ heldDay (s .randomisation) date →
-    PlacesEntry s day (r .entry) (r .marks) (r .sizes) x → Places s r x
-on-its-day s r date day x e d w = let q : day ≡ dayOn s r = d ∙ rw e in rw q at w
+pub refusal-as-tested : (e : Enrolment) (f : FollowUp) (day : StudyDay) (v : VisitEntry) (marks : List Bool) (fit : Bool) (a : AddAnswer) →
+    fit ≡ fitsBy (e .baseline .count) (e .nontarget) (v .status) marks →
+    addNumber a ≡ refusalBy (isRecorded (dayValue (f .death))) (leb (day .0) (f .latest .0)) (not fit) → addNumber a ≡ refusalOn e f day (E.Visit v) marks
+unfolding refusalOn
+refusal-as-tested e f day v marks fit a fq aq = aq ∙ rw fq
 
--- ---- the line of a visit
+-- ---- a step
 
-pub visited-as : (s : Subject) (day : StudyDay) (v : VisitEntry) (m : Measured) (a : VisitAnswer) (next : Subject) (j : JudgedVisit) →
-    JudgesVisit (s .baseline) (s .earlier) v m a → next ≡ answerAdded s day (a .after) (overallWord (a .overall)) → judgedValues j ≡ lineJudged day (v .status) a →
-    Advanced (measuredAdded s day v m) (lineBy s day v m ∷ []) (record { added = record { subject = next; answer = A.Done }; visit = J.Judged j })
-visited-as s day v m a next j w n l =
+-- a refusal carries no responses
+no-responses : (a : AddAnswer) (n : ℕ) → addNumber a ≡ suc n → addResponses a ≡ []
+no-responses A.Done n q = refl
+no-responses (A.Judged v) n q = absurd (let w : ⊥ = omega arith in w)
+no-responses A.NotElevenBytes n q = refl
+no-responses A.NoSuchKind n q = refl
+no-responses A.NoSuchDate n q = refl
+no-responses A.OutsideLimits n q = refl
+no-responses A.NotZero n q = refl
+no-responses A.SecondBaseline n q = refl
+no-responses A.AfterDeath n q = refl
+no-responses A.TooEarly n q = refl
+no-responses A.Misfit n q = refl
+no-responses A.OutOfRange n q = refl
+
+pub visit-placed : (e : Enrolment) (f next : FollowUp) (day : StudyDay) (v : VisitEntry) (measured : List Bool) (sizes : List ℕ) (a : VisitAnswer) (r : VisitResponse) →
+    JudgesVisit (e .baseline) (f .earlier) v measured sizes a →
+    next ≡ answerAdded f day (a .after) (overallWord (a .overall)) →
+    responseValues r
+    ≡ record { day = day .0; target = targetWord (a .target); nontarget = statusWord (v .status); overall = overallWord (a .overall); change = changeValues (a .change) } →
+    StepsBy e f day (E.Visit v) measured sizes 0 (record { followup = next; answer = A.Judged r })
+unfolding visitAdded answerOn
+visit-placed e f next day v measured sizes a r w n l =
     record {
       answer = refl;
-      left = n ∙ (λ i. answerAdded s day (w .after i) (w .overall i));
-      shown =
-          ap (λ (x : VisitLine). x ∷ []) l
-          ∙ (λ i. record { day = day .0; target = w .target i; nontarget = statusWord (v .status); overall = w .overall i; change = w .change i } ∷ []);
+      responses = ap (λ x. x ∷ []) l ∙ (λ i. record { day = day .0; target = w .target i; nontarget = statusWord (v .status); overall = w .overall i; change = w .change i } ∷ []);
+      left =
+          n ∙ (λ i. answerAdded f day (w .after i) (w .overall i));
     }
 
--- ---- 8 to 11
+refused-by : {e : Enrolment} {f : FollowUp} {day : StudyDay} {r : Entry} {marks : List Bool} {sizes : List ℕ} {x : Step} (a : AddAnswer) (n m : ℕ) → addNumber a ≡ m →
+    m ≡ suc n → (x .answer ≡ a) × (x .followup ≡ f) → StepsBy e f day r marks sizes m x
+refused-by a n m p k q =
+    let met : eqb m 0 ≡ false = rw k (ne-eqb (suc n) 0 (omega arith)) in
+    record { answer = ap addNumber (q .0) ∙ p; responses = ap addResponses (q .0) ∙ no-responses a n (p ∙ k) ∙ rw met; left = q .1 ∙ rw met }
 
-behind-refused : {s next : Subject} {lines : List VisitLine} {x : PlaceResult} (refusal : ℕ) (a : AddAnswer) (n : ℕ) → addNumber a ≡ suc n → refusal ≡ suc n →
-    (x .added .answer ≡ a) × (x .added .subject ≡ s) × (x .visit ≡ J.Absent) → Behind s next lines refusal x
-behind-refused refusal a n p r q =
-    let met : eqb refusal 0 ≡ false = rw r (ne-eqb (suc n) 0 (omega arith)) in
-    record { answer = ap addNumber (q .0) ∙ p ∙ sym r; left = q .1 ∙ rw met; shown = ap visitValues (q .2) ∙ rw met }
+module _ (inside : Bool) (e : Enrolment) (f : FollowUp) (d : Dated) (v : VisitEntry) (behind refusal : AddAnswer) (x : Step) (n : ℕ)
+    (bq : addNumber behind ≡ refusalOn e f (d .day) (E.Visit v) (d .found .marks))
+    (rq : addNumber refusal ≡ firstRefusal inside (addNumber (d .own)) (addNumber behind)) (nq : n ≡ addNumber refusal) where
+  number : addNumber refusal ≡ firstRefusal inside (addNumber (d .own)) (refusalOn e f (d .day) (E.Visit v) (d .found .marks))
+  number = rq ∙ ap (firstRefusal inside (addNumber (d .own))) bq
 
--- a choice between a value and itself
-either-way : {A : Type 0} (x : Bool) (a : A) → a ≡ pick x a a
-either-way true a = refl
-either-way false a = refl
+  pub visit-refused : (n ≡ 0 → ⊥) → (x .answer ≡ refusal) × (x .followup ≡ f) →
+      Steps inside e f (d .day) (addNumber (d .own)) (E.Visit v) (d .found .marks) (d .found .sizes) x
+  visit-refused z q = refused-by refusal (n - 1) _ number (sym number ∙ sym nq ∙ (let w : n ≡ suc (n - 1) = omega arith in w)) q
 
-behind-done : {s next : Subject} {lines : List VisitLine} {x : PlaceResult} (refusal : ℕ) → refusal ≡ 0 → Advanced next lines x → Behind s next lines refusal x
-behind-done refusal z w =
-    let none : eqb refusal 0 ≡ true = rw z in
-    record { answer = ap addNumber (w .answer) ∙ sym z; left = w .left ∙ rw none; shown = w .shown ∙ rw none }
+  pub visit-stepped : n ≡ 0 → StepsBy e f (d .day) (E.Visit v) (d .found .marks) (d .found .sizes) 0 x →
+      Steps inside e f (d .day) (addNumber (d .own)) (E.Visit v) (d .found .marks) (d .found .sizes) x
+  visit-stepped z w = let none = sym number ∙ sym nq ∙ z in rw none w
 
-module _ (dead early misfit d : Bool) (dq : d ≡ dead) where
-  pub after-death : d ≡ true → 9 ≡ refusalBy dead early misfit
-  after-death h = rw (← dq, h)
+-- a therapy or a death
+module _ (inside : Bool) (f : FollowUp) (d : Dated) (next : FollowUp) (behind refusal : AddAnswer) (n : ℕ)
+    (bq : addNumber behind ≡ refusalBy (isRecorded (dayValue (f .death))) (ltb (d .day .0) (f .latest .0)) false)
+    (rq : addNumber refusal ≡ firstRefusal inside (addNumber (d .own)) (addNumber behind)) (nq : n ≡ addNumber refusal) where
+  later-number : addNumber refusal ≡ firstRefusal inside (addNumber (d .own)) (refusalBy (isRecorded (dayValue (f .death))) (ltb (d .day .0) (f .latest .0)) false)
+  later-number = rq ∙ ap (firstRefusal inside (addNumber (d .own))) bq
 
-  pub too-early : d ≡ false → early ≡ true → 10 ≡ refusalBy dead early misfit
-  too-early h k = rw (← dq, h, k)
+  pub later-refused : (x : Step) → (n ≡ 0 → ⊥) → (x .answer ≡ refusal) × (x .followup ≡ f) → StepsLater inside f d next x
+  later-refused x z q =
+      let met : addNumber refusal ≡ suc (n - 1) = sym nq ∙ (let w : n ≡ suc (n - 1) = omega arith in w) in
+      let no : eqb (addNumber refusal) 0 ≡ false = rw met (ne-eqb (suc (n - 1)) 0 (omega arith)) in
+      record { answer = ap addNumber (q .0) ∙ later-number; responses = ap addResponses (q .0) ∙ no-responses refusal (n - 1) met; left = q .1 ∙ rw (q .0, no) }
 
-  pub misfitting : d ≡ false → early ≡ false → misfit ≡ true → 11 ≡ refusalBy dead early misfit
-  misfitting h k m = rw (← dq, h, k, m)
-
-  pub none-behind : d ≡ false → early ≡ false → misfit ≡ false → 0 ≡ refusalBy dead early misfit
-  none-behind h k m = rw (← dq, h, k, m)
-
-pub refusal-as-tested : (s : Subject) (day : StudyDay) (v : VisitEntry) (marks : List Bool) (fit : Bool) (a : AddAnswer) →
-    fit ≡ fitsBy (s .baseline .count) (s .nontarget) (v .status) marks →
-    addNumber a ≡ refusalBy (isRecorded (dayValue (s .death))) (leb (day .0) (s .latest .0)) (not fit) → addNumber a ≡ refusalOn s day (E.Visit v) marks
-unfolding refusalOn
-refusal-as-tested s day v marks fit a fq aq = aq ∙ rw fq
-
--- by the number of the refusal
-module _ (s next : Subject) (lines : List VisitLine) (refusal : ℕ) (a : AddAnswer) (n : ℕ) (x : PlaceResult) (nq : n ≡ addNumber a) (aq : addNumber a ≡ refusal) where
-  pub told-refused : (n ≡ 0 → ⊥) → (x .added .answer ≡ a) × (x .added .subject ≡ s) × (x .visit ≡ J.Absent) → Behind s next lines refusal x
-  told-refused z q = behind-refused _ a (n - 1) (sym nq ∙ more) (sym aq ∙ sym nq ∙ more) q
-    where
-      more : n ≡ suc (n - 1)
-      more = omega arith
-
-  pub told-placed : n ≡ 0 → (made : Subject) → made ≡ next → Advanced made lines x → Behind s next lines refusal x
-  told-placed z made e w = behind-done _ (sym aq ∙ sym nq ∙ z) (rw e at w)
-
-pub visit-placed : (s : Subject) (day : StudyDay) (v : VisitEntry) (marks : List Bool) (sizes : List ℕ) (a : AddAnswer) (n : ℕ) (m : Measured) (x : PlaceResult) →
-    n ≡ addNumber a → addNumber a ≡ refusalOn s day (E.Visit v) marks → n ≡ 0 → m ≡ measuredOf (s .baseline .count) (s .baseline .nodes) marks sizes →
-    Advanced (measuredAdded s day v m) (lineBy s day v m ∷ []) x → PlacesEntry s day (E.Visit v) marks sizes x
-visit-placed s day v marks sizes a n m x nq aq z e w = told-placed s _ _ _ a n x nq aq z _ refl (measured-as s day v marks sizes m e w)
+  pub later-stepped : n ≡ 0 → StepsLater inside f d next (record { followup = next; answer = A.Done })
+  later-stepped z = record { answer = sym z ∙ nq ∙ later-number; responses = refl; left = refl }
 
 -- by the record's kind
-module _ (s : Subject) (day : StudyDay) (e : Entry) (marks : List Bool) (x : PlaceResult) where
-  pub second-baseline : (b : BaselineEntry) → e ≡ E.Baseline b → (x .added .answer ≡ A.SecondBaseline) × (x .added .subject ≡ s) × (x .visit ≡ J.Absent) →
-      PlacesOther s day e marks x
+module _ (inside : Bool) (e : Enrolment) (f : FollowUp) (d : Dated) (r : Entry) (x : Step) where
+  abbrev Stepped : Type 0
+  Stepped = Steps inside e f (d .day) (addNumber (d .own)) r (d .found .marks) (d .found .sizes) x
+
+  pub second-baseline : (b : BaselineEntry) (refusal : AddAnswer) → r ≡ E.Baseline b → addNumber refusal ≡ firstRefusal inside (addNumber (d .own)) 8 →
+      (x .answer ≡ refusal) × (x .followup ≡ f) → Stepped
   unfolding refusalOn
-  second-baseline b k q = behind-refused _ A.SecondBaseline 7 refl (rw k) q
+  second-baseline b refusal k rq q = rw k (refused-by refusal (firstRefusal inside (addNumber (d .own)) 8 - 1) _ rq more q)
+    where
+      go : (inside : Bool) (n : ℕ) → firstRefusal inside n 8 ≡ suc (firstRefusal inside n 8 - 1)
+      go false n = refl
+      go true n = more-than (eqb n 0) refl
+        where
+          more-than : (z : Bool) → eqb n 0 ≡ z → pick z 8 n ≡ suc (pick z 8 n - 1)
+          more-than true h = refl
+          more-than false h = let w = eqb-false n 0 h in omega (arith, w)
 
-  pub told-of-visit : (v : VisitEntry) (a : AddAnswer) → e ≡ E.Visit v → addNumber a ≡ refusalOn s day (E.Visit v) marks →
-      (x .added .answer ≡ a) × (x .added .subject ≡ s) × (x .visit ≡ J.Absent) → PlacesOther s day e marks x
-  told-of-visit v a k aq q =
-      let none = eqb (refusalOn s day (E.Visit v) marks) 0 in
-      let w : Behind s s [] (refusalOn s day (E.Visit v) marks) x =
-      record { answer = ap addNumber (q .0) ∙ aq; left = q .1 ∙ either-way none s; shown = ap visitValues (q .2) ∙ either-way none [] } in
-      rw k w
+      more : firstRefusal inside (addNumber (d .own)) 8 ≡ suc (firstRefusal inside (addNumber (d .own)) 8 - 1)
+      more = go inside (addNumber (d .own))
 
-  module _ (d : Date) where
-    pub of-therapy : e ≡ E.Therapy d → PlacesLater s day (therapyAdded s day) x → PlacesOther s day e marks x
+  pub of-visit : (v : VisitEntry) → r ≡ E.Visit v → Steps inside e f (d .day) (addNumber (d .own)) (E.Visit v) (d .found .marks) (d .found .sizes) x → Stepped
+  of-visit v k w = rw k w
+
+  module _ (date : Date) (next : FollowUp) (w : StepsLater inside f d next x) where
+    abbrev refusal : ℕ
+    refusal = firstRefusal inside (addNumber (d .own)) (refusalBy (isRecorded (dayValue (f .death))) (ltb (d .day .0) (f .latest .0)) false)
+
+    later-lines : (z : Bool) → _≡_ {A = List VisitLine} [] (pick z [] [])
+    later-lines true = refl
+    later-lines false = refl
+
+    pub of-therapy : r ≡ E.Therapy date → next ≡ therapyAdded f (d .day) → Stepped
     unfolding refusalOn
-    of-therapy q p = rw q p
+    of-therapy k q = rw k (record { answer = w .answer; responses = w .responses ∙ later-lines (eqb refusal 0); left = w .left ∙ rw (q, w .answer) })
 
-    pub of-death : e ≡ E.Death d → PlacesLater s day (deathAdded s day) x → PlacesOther s day e marks x
+    pub of-death : r ≡ E.Death date → next ≡ deathAdded f (d .day) → Stepped
     unfolding refusalOn
-    of-death q p = rw q p
-
-  module _ (sizes : List ℕ) where
-    pub of-visit : (v : VisitEntry) → e ≡ E.Visit v → PlacesEntry s day (E.Visit v) marks sizes x → PlacesEntry s day e marks sizes x
-    of-visit v q p = rw q p
-
-    pub other-baseline : (b : BaselineEntry) → e ≡ E.Baseline b → PlacesOther s day e marks x → PlacesEntry s day e marks sizes x
-    other-baseline b q p = let w : PlacesOther s day (E.Baseline b) marks x = rw q at p in rw q w
-
-    pub other-therapy : (d : Date) → e ≡ E.Therapy d → PlacesOther s day e marks x → PlacesEntry s day e marks sizes x
-    other-therapy d q p = let w : PlacesOther s day (E.Therapy d) marks x = rw q at p in rw q w
-
-    pub other-death : (d : Date) → e ≡ E.Death d → PlacesOther s day e marks x → PlacesEntry s day e marks sizes x
-    other-death d q p = let w : PlacesOther s day (E.Death d) marks x = rw q at p in rw q w
+    of-death k q = rw k (record { answer = w .answer; responses = w .responses ∙ later-lines (eqb refusal 0); left = w .left ∙ rw (q, w .answer) })

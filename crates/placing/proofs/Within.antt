@@ -24,9 +24,10 @@ use Rattle.endpoints.specs.declared.MaybeDay.{MaybeDay}
 use Rattle.endpoints.specs.declared.MaybeDay.the-variants as M
 use Rattle.endpoints.specs.Values.{isRecorded, dayValue}
 use Rattle.endpoints.specs.StudyRecords.{studyDay}
-use Rattle.held.specs.declared.Subject.{Subject}
+use Rattle.held.specs.declared.Enrolment.{Enrolment}
+use Rattle.held.specs.declared.FollowUp.{FollowUp}
 use Rattle.held.specs.declared.CountingVisits.{CountingVisits}
-use Rattle.held.specs.Laws.{Within, AbsentOrWithin, CountedWithin, SubjectWithin}
+use Rattle.held.specs.Laws.{Within, AbsentOrWithin, CountedWithin, FollowUpWithin}
 use Rattle.held.proofs.Within.{event-within, counted-within}
 use Rattle.placing.specs.Added.{heldDay, answerOn, closedOn, visitAdded, later, therapyAdded, deathAdded, entryAdded}
 use Rattle.placing.specs.Refusals.{earlyOn, misfitOn, refusalOn}
@@ -52,9 +53,9 @@ in-time false true early misfit e = absurd (let w : ⊥ = omega arith in w)
 in-time false false true misfit e = absurd (let w : ⊥ = omega arith in w)
 in-time false false false misfit e = refl
 
-not-early : (s : Subject) (day : StudyDay) (e : Entry) (marks : List Bool) → refusalOn s day e marks ≡ 0 → earlyOn s day e ≡ false
+not-early : (e : Enrolment) (f : FollowUp) (day : StudyDay) (r : Entry) (marks : List Bool) → refusalOn e f day r marks ≡ 0 → earlyOn f day r ≡ false
 unfolding refusalOn
-not-early s day e marks r = in-time (eqb (kindNumber e) 1) (isRecorded (dayValue (s .death))) (earlyOn s day e) (misfitOn s e marks) r
+not-early e f day r marks q = in-time (eqb (kindNumber r) 1) (isRecorded (dayValue (f .death))) (earlyOn f day r) (misfitOn e r marks) q
 
 nadir-least : (count : ℕ) (earlier : Earlier) (measured : List Bool) (sizes : List ℕ) →
     afterVisit count earlier measured sizes .nadir ≤ earlier .nadir
@@ -65,57 +66,45 @@ nadir-least count earlier measured sizes = go (allMeasured count measured)
     go true = omega arith
     go false = omega arith
 
-later-within : (s : Subject) (day : StudyDay) (therapy : Bool) (death : MaybeDay) → SubjectWithin s → Within (day .0) → AbsentOrWithin death →
-    SubjectWithin (later s day therapy death)
-later-within s day therapy death w d a =
-    record {
-      randomisation = w .randomisation;
-      count = w .count;
-      sum = w .sum;
-      nadir = w .nadir;
-      latest = d;
-      death = a;
-      event = w .event;
-      counted = w .counted;
-    }
+later-within : (f : FollowUp) (day : StudyDay) (therapy : Bool) (death : MaybeDay) → FollowUpWithin f → Within (day .0) → AbsentOrWithin death →
+    FollowUpWithin (later f day therapy death)
+later-within f day therapy death w d a = record { nadir = w .nadir; latest = d; death = a; event = w .event; counted = w .counted }
 
 -- a date whose study day is not before the latest one
-on-or-after : (s : Subject) (d : Date) → SubjectWithin s → ltb (studyDay (s .randomisation) d) (s .latest .0) ≡ false → Within (studyDay (s .randomisation) d)
-on-or-after s d w h =
+on-or-after : (randomisation : Date) (f : FollowUp) (d : Date) → FollowUpWithin f → ltb (studyDay randomisation d) (f .latest .0) ≡ false →
+    Within (studyDay randomisation d)
+on-or-after randomisation f d w h =
     let from = w .latest .0 in
-    let behind = ltb-false (studyDay (s .randomisation) d) (s .latest .0) h in
-    (omega arith, study-day-most (s .randomisation) d)
+    let behind = ltb-false (studyDay randomisation d) (f .latest .0) h in
+    (omega arith, study-day-most randomisation d)
 
-pub adding-within : (s : Subject) (e : Entry) (marks : List Bool) (sizes : List ℕ) → SubjectWithin s →
-    refusalOn s (heldDay (s .randomisation) (dateOf e)) e marks ≡ 0 → SubjectWithin (entryAdded s (heldDay (s .randomisation) (dateOf e)) e marks sizes)
+pub adding-within : (e : Enrolment) (f : FollowUp) (r : Entry) (marks : List Bool) (sizes : List ℕ) → FollowUpWithin f →
+    refusalOn e f (heldDay (e .randomisation) (dateOf r)) r marks ≡ 0 → FollowUpWithin (entryAdded e f (heldDay (e .randomisation) (dateOf r)) r marks sizes)
 unfolding visitAdded therapyAdded deathAdded
-adding-within s (E.Baseline b) marks sizes w r = w
-adding-within s (E.Visit v) marks sizes w r =
-    let most = study-day-most (s .randomisation) (v .date) in
-    let behind = leb-false (studyDay (s .randomisation) (v .date)) (s .latest .0) (not-early s (heldDay (s .randomisation) (v .date)) (E.Visit v) marks r) in
+adding-within e f (E.Baseline b) marks sizes w r = w
+adding-within e f (E.Visit v) marks sizes w r =
+    let most = study-day-most (e .randomisation) (v .date) in
+    let behind = leb-false (studyDay (e .randomisation) (v .date)) (f .latest .0) (not-early e f (heldDay (e .randomisation) (v .date)) (E.Visit v) marks r) in
     let from = w .latest .0 in
-    let day : Within (studyDay (s .randomisation) (v .date)) = (omega arith, most) in
-    let held = heldDay (s .randomisation) (v .date) in
-    let answer = answerOn s v marks sizes in
-    let least = nadir-least (s .baseline .count) (s .earlier) marks sizes in
+    let day : Within (studyDay (e .randomisation) (v .date)) = (omega arith, most) in
+    let held = heldDay (e .randomisation) (v .date) in
+    let answer = answerOn e f v marks sizes in
+    let least = nadir-least (e .baseline .count) (f .earlier) marks sizes in
     let nadir = w .nadir in
     record {
-      randomisation = w .randomisation;
-      count = w .count;
-      sum = w .sum;
       nadir = omega arith;
       latest = day;
       death = w .death;
-      event = event-within held day (s .event) answer (w .event);
-      counted = counted-or-not (closedOn s) (counted-within held day (s .counted) answer (w .counted));
+      event = event-within held day (f .event) answer (w .event);
+      counted = counted-or-not (closedOn f) (counted-within held day (f .counted) answer (w .counted));
     }
   where
-    counted-or-not : {c : CountingVisits} (x : Bool) → CountedWithin c → CountedWithin (pick x (s .counted) c)
+    counted-or-not : {c : CountingVisits} (x : Bool) → CountedWithin c → CountedWithin (pick x (f .counted) c)
     counted-or-not true k = w .counted
     counted-or-not false k = k
-adding-within s (E.Therapy d) marks sizes w r =
-    let day = on-or-after s d w (not-early s (heldDay (s .randomisation) d) (E.Therapy d) marks r) in
-    later-within s _ true (s .death) w day (w .death)
-adding-within s (E.Death d) marks sizes w r =
-    let day = on-or-after s d w (not-early s (heldDay (s .randomisation) d) (E.Death d) marks r) in
-    later-within s _ (s .therapy) (M.On (heldDay (s .randomisation) d)) w day day
+adding-within e f (E.Therapy d) marks sizes w r =
+    let day = on-or-after (e .randomisation) f d w (not-early e f (heldDay (e .randomisation) d) (E.Therapy d) marks r) in
+    later-within f _ true (f .death) w day (w .death)
+adding-within e f (E.Death d) marks sizes w r =
+    let day = on-or-after (e .randomisation) f d w (not-early e f (heldDay (e .randomisation) d) (E.Death d) marks r) in
+    later-within f _ (f .therapy) (M.On (heldDay (e .randomisation) d)) w day day

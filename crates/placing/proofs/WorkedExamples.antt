@@ -4,19 +4,24 @@
 use mathlib.Core.Path.{refl}
 use Rattle.dates.specs.Calendar.{leapYear, daysInMonth, dateExists, daysOfYears, daysOfMonths, dayNumber}
 use Rattle.dates.specs.Answers.{studyDayOf}
+use Rattle.records.specs.Refusals.{wrongSize, largeMeasured, setBeyond, sizedUnmeasured, withoutDisease, outsideLimits, notZero, refusalOfRead}
+use Rattle.codec.specs.Bytes.{bytesNumber}
+use Rattle.codec.specs.Reading.{statusFrom, baselineIn, visitIn, spareIn, rawIn, refusalOfNumber, refusalOfBytes, recordOfBytes}
 use Rattle.criteria.specs.Sums.{measuredSum, allMeasured}
 use Rattle.criteria.specs.Targets.{allGone, grown, shrunk, targetAnswer}
 use Rattle.criteria.specs.Nadir.{afterVisit}
 use Rattle.criteria.specs.Overall.{overallAnswer}
 use Rattle.criteria.specs.Change.{changeBetween, changeOf}
 use Rattle.endpoints.specs.Lawful.{measuredBeyond, fitsBy}
+use Rattle.held.specs.Range.{enrolmentInRange, followUpInRange, inRange}
 use Rattle.held.specs.Visits.{eventAfter, countedAfter}
 use Rattle.placing.specs.Added.{answerOn, visitAdded, therapyAdded, deathAdded}
 use Rattle.placing.specs.Refusals.{refusalOn}
-use Rattle.placing.specs.Examples.{NumbersOfCases, FirstRefusals, AddedAtTheEdges, LinesAtTheEdges}
+use Rattle.placing.specs.Promises.{refusalHeld, refusalFromBytes}
+use Rattle.placing.specs.Examples.{NumbersOfCases, FirstRefusals, AddedAtTheEdges, LinesAtTheEdges, OrderByValue, OrderFromBytes, BesideNumbers}
 
 pub numbers-of-cases : NumbersOfCases
-numbers-of-cases = record { additions = refl; judgedVisit = refl; noVisit = refl; visit = refl }
+numbers-of-cases = record { additions = refl; responses = refl }
 
 pub first-refusals : FirstRefusals
 unfolding leapYear daysInMonth dateExists daysOfYears daysOfMonths dayNumber studyDayOf measuredBeyond fitsBy refusalOn
@@ -52,3 +57,26 @@ added-at-the-edges =
 pub lines-at-the-edges : LinesAtTheEdges
 unfolding leapYear daysInMonth dateExists daysOfYears daysOfMonths dayNumber studyDayOf measuredSum allMeasured allGone grown shrunk targetAnswer overallAnswer changeBetween changeOf answerOn
 lines-at-the-edges = record { visit = refl; therapy = refl; death = refl; afterProgression = refl; missing = refl; newLesion = refl }
+
+pub order-by-value : OrderByValue
+unfolding leapYear daysInMonth dateExists daysOfYears daysOfMonths dayNumber studyDayOf wrongSize largeMeasured setBeyond sizedUnmeasured withoutDisease outsideLimits notZero refusalOfRead measuredBeyond fitsBy enrolmentInRange followUpInRange inRange refusalOn refusalHeld
+order-by-value = record { outsideFirst = refl; dateBeforeBaseline = refl; secondBaseline = refl; visit = refl }
+
+pub order-from-bytes : OrderFromBytes
+unfolding leapYear daysInMonth dateExists daysOfYears daysOfMonths dayNumber studyDayOf wrongSize largeMeasured setBeyond sizedUnmeasured withoutDisease outsideLimits notZero refusalOfRead bytesNumber statusFrom baselineIn visitIn spareIn rawIn refusalOfNumber refusalOfBytes recordOfBytes measuredBeyond fitsBy enrolmentInRange followUpInRange inRange refusalOn refusalFromBytes
+order-from-bytes =
+    record {
+      outsideFirst = refl;
+      outsideTherapy = refl;
+      short = refl;
+      noKind = refl;
+      noDate = refl;
+      spareBeforeBaseline = refl;
+      secondBaseline = refl;
+      visit = refl;
+      visitAgain = refl;
+    }
+
+pub beside-numbers : BesideNumbers
+unfolding leapYear daysInMonth dateExists daysOfYears daysOfMonths dayNumber studyDayOf measuredSum allMeasured allGone grown shrunk targetAnswer afterVisit overallAnswer changeBetween changeOf eventAfter countedAfter answerOn visitAdded
+beside-numbers = record { done = refl; next = refl; refused = refl; same = refl }

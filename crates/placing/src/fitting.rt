@@ -6,7 +6,6 @@ ghost use lib.Dec.{eqb};
 ghost use Rattle.records.specs.Form.{statusNumber};
 ghost use Rattle.endpoints.specs.Lawful.{measuredBeyond, fitsBy};
 
-// By the count, so that the targets within it cost nothing.
 fn some_beyond(count: u8, a: bool, b: bool, c: bool, d: bool, e: bool) -> bool
     ensures { λ r. ⌜ r ≡ measuredBeyond count (a ∷ b ∷ c ∷ d ∷ e ∷ []) ⌝ }
 {
@@ -33,7 +32,7 @@ fn measured_beyond(count: u8, measured: [bool; 5]) -> bool
     )
 }
 
-pub(crate) fn is_na(status: Status) -> bool
+fn is_na(status: Status) -> bool
     ensures { λ r. ⌜ r ≡ eqb (statusNumber status) 0 ⌝ }
 {
     match status {

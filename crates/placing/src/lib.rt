@@ -1,27 +1,45 @@
-// Refusals 8 to 11 of a record, judged on the held subject, the subject after it and the answers at a visit (document 01, "Where a call
-// stops"). That all of it follows the list of the records is proved here.
+// Adding a record, from its value or its bytes: the refusals 1 to 5 and 8 to 12, the subject after it and the responses at a visit (document 01,
+// "Where a call stops", "Visit responses" and "Outcome"). That all of it follows the list of the records is proved here.
 use criteria::ChangeAnswer;
 use criteria::Overall;
 use criteria::Target;
 use dates::StudyDay;
+use held::FollowUp;
 use held::Subject;
+use records::Record;
 use records::Status;
 ghost use mathlib.Core.Path.{_≡_};
 ghost use Rattle.placing.specs.Refusals.{addNumber};
 
 mod fitting; // fitting.rt: whether a visit fits the baseline
-mod added; // added.rt: the subject after a record
-mod refusals; // refusals.rt: 8 to 11
+mod after; // after.rt: the follow-up after a record
+mod refusals; // refusals.rt: the first refusal that meets a record
+mod dating; // dating.rt: a record on its study day, with its own refusal
+mod stepping; // stepping.rt: one record more
+mod adding; // adding.rt: the calls
 
-pub use added::visited;
-pub use refusals::held_day;
-pub use refusals::may_follow;
-pub use refusals::place;
-pub use refusals::place_other;
+pub use adding::add;
+pub use adding::add_bytes;
+pub use adding::added;
+
+// The responses at a visit, which its line of the listing has too.
+pub struct VisitResponse {
+    pub day: StudyDay,
+    pub target: Target,
+    pub nontarget: Status,
+    pub overall: Overall,
+    pub change: ChangeAnswer,
+}
 
 // What adding answers.
 pub enum AddAnswer {
+    // A therapy or a death was added.
     Done,
+    // A visit was added.
+    Judged(VisitResponse),
+    // This and the next from bytes alone.
+    NotElevenBytes,
+    NoSuchKind,
     NoSuchDate,
     OutsideLimits,
     NotZero,
@@ -38,6 +56,9 @@ pub fn add_number(answer: AddAnswer) -> u8
 {
     match answer {
         AddAnswer::Done => 0,
+        AddAnswer::Judged(_) => 0,
+        AddAnswer::NotElevenBytes => 1,
+        AddAnswer::NoSuchKind => 2,
         AddAnswer::NoSuchDate => 3,
         AddAnswer::OutsideLimits => 4,
         AddAnswer::NotZero => 5,
@@ -55,22 +76,15 @@ pub struct AddResult {
     pub answer: AddAnswer,
 }
 
-// What a visit's line of the listing tells.
-pub struct JudgedVisit {
-    pub day: StudyDay,
-    pub target: Target,
-    pub nontarget: Status,
-    pub overall: Overall,
-    pub change: ChangeAnswer,
+// A record, given or read, on its study day, with its own refusal or `Done`.
+pub(crate) struct Dated {
+    pub(crate) day: StudyDay,
+    pub(crate) own: AddAnswer,
+    pub(crate) found: Record,
 }
 
-pub enum MaybeVisit {
-    Absent,
-    Judged(JudgedVisit),
-}
-
-// The visit is absent beside a refusal and where the record is no visit.
-pub struct PlaceResult {
-    pub added: AddResult,
-    pub visit: MaybeVisit,
+// The part of the subject that an addition moves, after it; the same beside a refusal.
+pub(crate) struct Step {
+    pub(crate) followup: FollowUp,
+    pub(crate) answer: AddAnswer,
 }

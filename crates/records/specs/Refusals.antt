@@ -1,5 +1,6 @@
 -- Document 01, "Dates and records" and "Where a call stops": the refusals 3, 4 and 5 of any record.
 -- Assumes nothing.
+use mathlib.Core.Path.{_≡_}
 use Prim.Native.Nat.{ℕ}
 use mathlib.Core.Bool.{Bool, false, not}
 use mathlib.Core.List.{List}
@@ -11,6 +12,7 @@ use Rattle.records.specs.Form.{dateOf}
 use Rattle.records.specs.declared.Entry.{Entry}
 use Rattle.records.specs.declared.Entry.the-variants.{Baseline, Visit, Therapy, Death}
 use Rattle.records.specs.declared.BaselineEntry.{BaselineEntry}
+use Rattle.records.specs.declared.VisitEntry.{VisitEntry}
 use Rattle.records.specs.declared.Record.{Record}
 use Rattle.records.specs.declared.CheckAnswer.{CheckAnswer}
 use Rattle.records.specs.declared.CheckAnswer.the-variants.{Passed, NoSuchDate, OutsideLimits, NotZero}
@@ -82,6 +84,15 @@ notZero (Death d) marks sizes = someTarget (setBeyond 0) marks sizes
 -- the first of the three that meets, 0 for none
 abbrev pub firstOwn : Bool → Bool → Bool → ℕ
 firstOwn noDate outside set = pick noDate 3 (pick outside 4 (pick set 5 0))
+
+-- 4, then 5, with a status that is none (4) or a spare bit that is set (5) beside the fields
+abbrev pub refusalOfFields : Entry → List Bool → List ℕ → Bool → Bool → ℕ
+refusalOfFields e marks sizes badstatus spare =
+    firstOwn false (either badstatus (outsideLimits e marks sizes)) (either spare (notZero e marks sizes))
+
+-- what checking the fields of a visit promises, whatever its entry
+abbrev pub ChecksVisit : List Bool → List ℕ → Bool → Bool → CheckAnswer → Type 0
+ChecksVisit measured sizes badstatus spare c = (v : VisitEntry) → checkNumber c ≡ refusalOfFields (Visit v) measured sizes badstatus spare
 
 -- what was read as a record, with a status that is none (4) or a spare bit that is set (5) beside it
 unfoldable pub refusalOfRead : Record → Bool → Bool → ℕ

@@ -4,12 +4,10 @@ ghost use mathlib.Core.Path.{_≡_};
 ghost use mathlib.Core.Bool.{false};
 ghost use Rattle.laws.specs.Choice.{either};
 ghost use Rattle.records.specs.Form.{dateOf};
-ghost use Rattle.records.specs.Refusals.{withoutDisease, outsideLimits, notZero, checkNumber, firstOwn, refusalOfRead, refusalOf};
+ghost use Rattle.records.specs.Refusals.{withoutDisease, outsideLimits, notZero, checkNumber, firstOwn, ChecksVisit, refusalOfRead, refusalOf};
 ghost use Rattle.records.specs.declared.Entry.the-variants.{Baseline};
 
 mod targets; // targets.rt: what some of the five targets breaks
-
-pub use targets::some_beyond_mark;
 
 // The non-target status of a visit.
 pub enum Status {
@@ -62,7 +60,10 @@ pub enum CheckAnswer {
     NotZero,
 }
 
-const MOST_TARGETS: u8 = 5;
+pub const MOST_TARGETS: u8 = 5;
+
+// In millimetres.
+pub const LARGEST_SIZE: u16 = 500;
 
 pub fn date_of(entry: Entry) -> Date
     ensures { λ r. ⌜ r ≡ dateOf entry ⌝ }
@@ -113,6 +114,21 @@ fn first_of(outside: bool, set: bool) -> CheckAnswer
     CheckAnswer::Passed
 }
 
+// Refusals 4 and 5 of a visit.
+pub fn check_visit(
+    measured: [bool; 5],
+    sizes: [u16; 5],
+    badstatus: bool,
+    spare: bool,
+) -> CheckAnswer
+    ensures { λ c. ⌜ ChecksVisit measured sizes badstatus spare c ⌝ }
+{
+    first_of(
+        badstatus | targets::some_large_measured(measured, sizes),
+        spare | targets::some_sized_unmeasured(measured, sizes),
+    )
+}
+
 // Refusals 4 and 5, with a spare bit that is set beside them.
 fn check_fields(entry: Entry, marks: [bool; 5], sizes: [u16; 5], spare: bool) -> CheckAnswer
     ensures { λ c. ⌜ checkNumber c ≡ firstOwn false (outsideLimits entry marks sizes) (either spare (notZero entry marks sizes)) ⌝ }
@@ -124,13 +140,7 @@ fn check_fields(entry: Entry, marks: [bool; 5], sizes: [u16; 5], spare: bool) ->
                 spare | not_zero(b, marks, sizes),
             )
         }
-        // Where 4 does not meet, a size beyond its mark is one that is not measured.
-        Entry::Visit(_) => {
-            first_of(
-                targets::some_large_measured(marks, sizes),
-                spare | targets::some_beyond_mark(marks, sizes),
-            )
-        }
+        Entry::Visit(_) => check_visit(marks, sizes, false, spare),
         Entry::Therapy(_) => first_of(false, spare | targets::some_set_beyond(0, marks, sizes)),
         Entry::Death(_) => first_of(false, spare | targets::some_set_beyond(0, marks, sizes)),
     }

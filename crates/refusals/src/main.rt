@@ -2,11 +2,13 @@
 // is held, is worked out by hand from document 01.
 use codec::ReadAnswer;
 use dates::StudyDay;
+use endpoints::BestResponse;
 use endpoints::MaybeDay;
 use file::FileAnswer;
 use file::FileRefusal;
 use held::CountingVisits;
 use held::EventDays;
+use held::FollowUp;
 use held::Subject;
 use opening::OpenAnswer;
 use placing::AddAnswer;
@@ -149,13 +151,8 @@ fn print_written(answer: WriteAnswer) {
 }
 
 fn print_opened(answer: OpenAnswer) {
-    match answer {
-        OpenAnswer::Done => text(b"A 0"),
-        OpenAnswer::NoSuchDate => text(b"A 3"),
-        OpenAnswer::OutsideLimits => text(b"A 4"),
-        OpenAnswer::NotZero => text(b"A 5"),
-        OpenAnswer::NotBaseline => text(b"A 7"),
-    }
+    text(b"A ");
+    io::print_decimal(libc::STDOUT_FILENO, opening::open_number(answer) as u64);
 }
 
 fn print_added(answer: AddAnswer) {
@@ -184,10 +181,10 @@ fn own_refusal(name: &[u8], r: Record, held: Subject) {
     let unopened = opened.answer;
     let blank = opened.subject;
     print_opened(unopened);
-    let added = outcome::added(held, r);
+    let added = placing::added(held, r);
     let unadded = added.answer;
     print_added(unadded);
-    let outside = outcome::added(blank, r);
+    let outside = placing::added(blank, r);
     let unjudged = outside.answer;
     print_added(unjudged);
     text(b"\n");
@@ -224,29 +221,25 @@ fn late_response() {
     let found = baseline.found;
     let opened = opening::open_subject(found);
     let s = opened.subject;
-    let randomisation = s.randomisation;
-    let disease = s.baseline;
-    let earlier = s.earlier;
+    let enrolment = s.enrolment;
+    let earlier = s.followup.earlier;
     let late = Subject {
-        randomisation: randomisation,
-        nontarget: s.nontarget,
-        baseline: disease,
-        earlier: earlier,
-        latest: StudyDay(78),
-        therapy: false,
-        death: MaybeDay::Absent,
-        event: EventDays {
-            progression: MaybeDay::Absent,
-            previous: StudyDay(43),
-            evaluable: MaybeDay::On(StudyDay(43)),
-        },
-        counted: CountingVisits {
-            first: MaybeDay::On(StudyDay(50)),
-            start: MaybeDay::Absent,
-            cr: false,
-            pr: true,
-            sd: true,
-            pd: false,
+        enrolment: enrolment,
+        followup: FollowUp {
+            earlier: earlier,
+            latest: StudyDay(78),
+            therapy: false,
+            death: MaybeDay::Absent,
+            event: EventDays {
+                progression: MaybeDay::Absent,
+                previous: StudyDay(43),
+                evaluable: MaybeDay::On(StudyDay(43)),
+            },
+            counted: CountingVisits {
+                first: MaybeDay::On(StudyDay(50)),
+                start: MaybeDay::Absent,
+                best: BestResponse::PR,
+            },
         },
     };
     text(b"a response behind the end of PFS\n");

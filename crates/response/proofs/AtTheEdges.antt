@@ -2,9 +2,19 @@
 -- Assumes nothing.
 use mathlib.Core.Path.{refl}
 use Rattle.criteria.specs.Sums.{measuredSum, baselineSum, allMeasured}
-use Rattle.criteria.specs.Targets.{allGone, grown, shrunk}
-use Rattle.response.specs.Examples.{MeasuredVisits}
+use Rattle.criteria.specs.Targets.{allGone, grown, shrunk, targetAnswer}
+use Rattle.criteria.specs.Nadir.{afterVisit}
+use Rattle.criteria.specs.Overall.{overallAnswer}
+use Rattle.criteria.specs.Change.{changeBetween, changeOf}
+use Rattle.response.specs.Examples.{JudgedVisits}
 
-pub measured-visits : MeasuredVisits
-unfolding measuredSum baselineSum allMeasured allGone grown shrunk
-measured-visits = record { neitherGone = refl; bothGone = refl; nodeUnmeasured = refl; otherLeft = refl; complete = refl; partial = refl; unmeasured = refl }
+pub judged-visits : JudgedVisits
+unfolding measuredSum baselineSum allMeasured allGone grown shrunk targetAnswer afterVisit overallAnswer changeBetween changeOf
+judged-visits =
+    record {
+      day43 = record { target = refl; overall = refl; change = refl; after = refl };
+      day85 = record { target = refl; overall = refl; change = refl; after = refl };
+      day127 = record { target = refl; overall = refl; change = refl; after = refl };
+      nodeUnmeasured = record { target = refl; overall = refl; change = refl; after = refl };
+      otherLeft = record { target = refl; overall = refl; change = refl; after = refl };
+    }

@@ -2,10 +2,12 @@
 -- Assumes nothing.
 use mathlib.Core.Path.{_≡_}
 use mathlib.Core.Bool.{Bool, true, false, not}
+use mathlib.Core.List.{List}
 use Prim.Native.Nat.{ℕ, _+_, _-_, _*_, _≤_, _<_}
 use native.Mathlib.Omega.{arith}
 use borrow.Author.Tests.{lt-ltb, le-ltb, eq-eqb, ne-eqb}
-use Rattle.criteria.specs.Change.{Tenths, none, signed, nearest, changeBetween, changeFrom}
+use Rattle.criteria.specs.Sums.{measuredSum, allMeasured}
+use Rattle.criteria.specs.Change.{Tenths, none, signed, nearest, changeBetween, changeOf}
 use Rattle.criteria.specs.declared.BaselineDisease.{BaselineDisease}
 
 module _ (baseline sum t : ℕ) where
@@ -27,17 +29,26 @@ module _ (baseline sum t : ℕ) where
     unfolding changeBetween
     decrease z = let p : 0 < t = omega arith in rw (less, ← e, lt-ltb sum baseline l, lt-ltb 0 t p)
 
+-- from whether every target is measured and the sum of the measured
+abbrev Tells : BaselineDisease → Bool → ℕ → Tenths → Type 0
+Tells b m s a =
+    (measured : List Bool) (sizes : List ℕ) → m ≡ allMeasured (b .count) measured → s ≡ measuredSum measured sizes → a ≡ changeOf b measured sizes
+
 module _ (b : BaselineDisease) (m : Bool) (s : ℕ) where
-  pub no-targets : b .count ≡ 0 → none ≡ changeFrom b m s
-  no-targets h = rw (eq-eqb (b .count) 0 h)
+  pub no-targets : b .count ≡ 0 → Tells b m s none
+  unfolding changeOf
+  no-targets h measured sizes me se = rw (eq-eqb (b .count) 0 h)
 
   module _ (h : b .count ≡ 0 → ⊥) where
-    pub some-unmeasured : not m ≡ true → none ≡ changeFrom b m s
-    some-unmeasured n = rw (ne-eqb (b .count) 0 h, n)
+    pub some-unmeasured : not m ≡ true → Tells b m s none
+    unfolding changeOf
+    some-unmeasured n measured sizes me se = rw (ne-eqb (b .count) 0 h, ← me, n)
 
     module _ (n : not m ≡ false) where
-      pub no-baseline-sum : b .sum ≡ 0 → none ≡ changeFrom b m s
-      no-baseline-sum z = rw (ne-eqb (b .count) 0 h, n, eq-eqb (b .sum) 0 z)
+      pub no-baseline-sum : b .sum ≡ 0 → Tells b m s none
+      unfolding changeOf
+      no-baseline-sum z measured sizes me se = rw (ne-eqb (b .count) 0 h, ← me, n, eq-eqb (b .sum) 0 z)
 
-      pub between : (b .sum ≡ 0 → ⊥) → (a : Tenths) → a ≡ changeBetween (b .sum) s → a ≡ changeFrom b m s
-      between z a ae = rw (ne-eqb (b .count) 0 h, n, ne-eqb (b .sum) 0 z) ae
+      pub between : (b .sum ≡ 0 → ⊥) → (a : Tenths) → a ≡ changeBetween (b .sum) s → Tells b m s a
+      unfolding changeOf
+      between z a ae measured sizes me se = rw (ne-eqb (b .count) 0 h, ← me, n, ne-eqb (b .sum) 0 z, ← se) ae

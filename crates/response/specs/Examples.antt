@@ -1,24 +1,33 @@
--- Document 01, "Visit responses": what the sizes of a visit come to. Proved in proofs/AtTheEdges.antt.
+-- Document 01, the printed example and "Visit responses": whole answers at visits of the printed example's subject. Proved in proofs/AtTheEdges.antt.
 -- Assumes nothing.
-use mathlib.Core.Path.{_≡_}
-use mathlib.Core.Bool.{true, false}
-use mathlib.Core.List.{[], _∷_}
+use mathlib.Core.Bool.{Bool, true, false}
+use mathlib.Core.List.{List, [], _∷_}
+use Prim.Native.Nat.{ℕ}
+use Rattle.dates.specs.Laws.{ymd}
 use Rattle.records.specs.Examples.{fivePlaces}
-use Rattle.criteria.specs.Words.{CR, PR, NE}
+use Rattle.records.specs.declared.Status.the-variants as S
 use Rattle.criteria.specs.Examples.{printed}
-use Rattle.response.specs.Judging.{measuredOf, targetOf}
+use Rattle.criteria.specs.declared.Target.the-variants as T
+use Rattle.criteria.specs.declared.Overall.the-variants as O
+use Rattle.criteria.specs.declared.ChangeAnswer.the-variants as C
+use Rattle.response.specs.Judging.{JudgesVisit}
+use Rattle.response.specs.declared.VisitAnswer.{VisitAnswer}
 
--- a target and a node; of the printed example's visits (24, 12) and (0, 9), one with the node unmeasured, and one with the target at 5
-pub record MeasuredVisits : Type 0 where
-  pub neitherGone : measuredOf 2 (fivePlaces false (false ∷ true ∷ [])) (fivePlaces false (true ∷ true ∷ [])) (fivePlaces 0 (24 ∷ 12 ∷ []))
-      ≡ record { complete = true; sum = 36; gone = false }
-  pub bothGone : measuredOf 2 (fivePlaces false (false ∷ true ∷ [])) (fivePlaces false (true ∷ true ∷ [])) (fivePlaces 0 (0 ∷ 9 ∷ []))
-      ≡ record { complete = true; sum = 9; gone = true }
-  pub nodeUnmeasured : measuredOf 2 (fivePlaces false (false ∷ true ∷ [])) (fivePlaces false (true ∷ [])) (fivePlaces 0 (24 ∷ []))
-      ≡ record { complete = false; sum = 24; gone = false }
-  pub otherLeft : measuredOf 2 (fivePlaces false (false ∷ true ∷ [])) (fivePlaces false (true ∷ true ∷ [])) (fivePlaces 0 (5 ∷ 9 ∷ []))
-      ≡ record { complete = true; sum = 14; gone = false }
-  -- the target answers of (0, 9) and (24, 12), and of a visit with a target unmeasured and the other gone
-  pub complete : targetOf printed (record { nadir = 36 }) (record { complete = true; sum = 9; gone = true }) ≡ CR
-  pub partial : targetOf printed (record { nadir = 60 }) (record { complete = true; sum = 36; gone = false }) ≡ PR
-  pub unmeasured : targetOf printed (record { nadir = 60 }) (record { complete = false; sum = 0; gone = true }) ≡ NE
+-- by the nadir so far, which of a target and a node were measured, and their sizes: non-target NN, no new lesion
+abbrev pub answered : ℕ → List Bool → List ℕ → VisitAnswer → Type 0
+answered nadir measured sizes =
+    JudgesVisit printed (record { nadir = nadir }) (record { date = ymd 2020 2 12; status = S.NN; newlesion = false }) (fivePlaces false measured) (fivePlaces 0 sizes)
+
+pub record JudgedVisits : Type 0 where
+  -- days 43, 85 and 127
+  pub day43 : answered 60 (true ∷ true ∷ []) (24 ∷ 12 ∷ [])
+      (record { target = T.PR; overall = O.PR; change = C.Decrease 400; after = record { nadir = 36 } })
+  pub day85 : answered 36 (true ∷ true ∷ []) (0 ∷ 9 ∷ [])
+      (record { target = T.CR; overall = O.PR; change = C.Decrease 850; after = record { nadir = 9 } })
+  pub day127 : answered 9 (true ∷ true ∷ []) (0 ∷ 15 ∷ [])
+      (record { target = T.PD; overall = O.PD; change = C.Decrease 750; after = record { nadir = 9 } })
+  -- the node unmeasured; the target, which is no node, at 5
+  pub nodeUnmeasured : answered 36 (true ∷ []) (0 ∷ [])
+      (record { target = T.NE; overall = O.NE; change = C.Absent; after = record { nadir = 36 } })
+  pub otherLeft : answered 36 (true ∷ true ∷ []) (5 ∷ 9 ∷ [])
+      (record { target = T.PR; overall = O.PR; change = C.Decrease 767; after = record { nadir = 14 } })

@@ -6,34 +6,23 @@ use mathlib.Core.List.{List, []}
 use Prim.Native.Nat.{ℕ}
 use Rattle.records.specs.declared.BaselineEntry.{BaselineEntry}
 use Rattle.records.specs.declared.VisitEntry.{VisitEntry}
-use Rattle.criteria.specs.Words.{Word, targetWord, statusWord, overallWord}
+use Rattle.criteria.specs.Words.{targetWord, statusWord, overallWord}
 use Rattle.criteria.specs.Inputs.{diseaseOf}
-use Rattle.criteria.specs.Sums.{measuredSum, allMeasured}
-use Rattle.criteria.specs.Targets.{allGone, targetBy}
-use Rattle.criteria.specs.Nadir.{leftBy, afterSum}
+use Rattle.criteria.specs.Targets.{targetAnswer}
+use Rattle.criteria.specs.Nadir.{leftBy, afterVisit}
 use Rattle.criteria.specs.Overall.{overallAnswer}
-use Rattle.criteria.specs.Change.{changeValues, changeFrom}
+use Rattle.criteria.specs.Change.{changeValues, changeOf}
 use Rattle.criteria.specs.declared.BaselineDisease.{BaselineDisease}
 use Rattle.criteria.specs.declared.Earlier.{Earlier}
 use Rattle.response.specs.declared.BaselineAnswer.{BaselineAnswer}
-use Rattle.response.specs.declared.Measured.{Measured}
 use Rattle.response.specs.declared.VisitAnswer.{VisitAnswer}
 
 pub record JudgesBaseline (entry : BaselineEntry) (nodes : List Bool) (sizes : List ℕ) (a : BaselineAnswer) : Type 0 where
   pub disease : a .disease ≡ diseaseOf entry nodes sizes
   pub after : a .after ≡ leftBy (diseaseOf entry nodes sizes) []
 
--- what the sizes of a visit come to: the sum of the measured, all measured, and every node at most 9 and every other 0
-abbrev pub measuredOf : ℕ → List Bool → List Bool → List ℕ → Measured
-measuredOf count nodes measured sizes =
-    record { complete = allMeasured count measured; sum = measuredSum measured sizes; gone = allGone count nodes sizes }
-
--- the target answer from what the sizes come to; at `measuredOf` it is `targetAnswer`
-abbrev pub targetOf : BaselineDisease → Earlier → Measured → Word
-targetOf b e m = targetBy b e (m .sum) (m .complete) (m .gone)
-
-pub record JudgesVisit (b : BaselineDisease) (e : Earlier) (v : VisitEntry) (m : Measured) (a : VisitAnswer) : Type 0 where
-  pub target : targetWord (a .target) ≡ targetOf b e m
-  pub overall : overallWord (a .overall) ≡ overallAnswer (b .assessed) (v .newlesion) (targetOf b e m) (statusWord (v .status))
-  pub change : changeValues (a .change) ≡ changeFrom b (m .complete) (m .sum)
-  pub after : a .after ≡ afterSum e (m .complete) (m .sum)
+pub record JudgesVisit (b : BaselineDisease) (e : Earlier) (v : VisitEntry) (measured : List Bool) (sizes : List ℕ) (a : VisitAnswer) : Type 0 where
+  pub target : targetWord (a .target) ≡ targetAnswer b e measured sizes
+  pub overall : overallWord (a .overall) ≡ overallAnswer (b .assessed) (v .newlesion) (targetAnswer b e measured sizes) (statusWord (v .status))
+  pub change : changeValues (a .change) ≡ changeOf b measured sizes
+  pub after : a .after ≡ afterVisit (b .count) e measured sizes

@@ -2,8 +2,11 @@
 use criteria::BaselineDisease;
 use criteria::ChangeAnswer;
 ghost use mathlib.Core.Path.{_≡_};
-ghost use Prim.Native.Nat.{_*_, _≤_};
-ghost use Rattle.criteria.specs.Change.{nearest, changeValues, changeBetween, changeFrom};
+ghost use mathlib.Core.Bool.{Bool};
+ghost use mathlib.Core.List.{List};
+ghost use Prim.Native.Nat.{ℕ, _*_, _≤_};
+ghost use Rattle.criteria.specs.Sums.{measuredSum, allMeasured};
+ghost use Rattle.criteria.specs.Change.{nearest, changeValues, changeBetween, changeOf};
 
 // A part of the baseline sum in tenths of a percent.
 fn tenths(part: u32, baseline: u32) -> u64
@@ -34,7 +37,7 @@ pub(crate) fn change_from_baseline(
     complete: bool,
     sum: u32,
 ) -> ChangeAnswer
-    ensures { λ r. ⌜ changeValues r ≡ changeFrom baseline complete sum ⌝ }
+    ensures { λ r. ⌜ ((measured : List Bool) (sizes : List ℕ) → complete ≡ allMeasured (baseline .count) measured → sum ≡ measuredSum measured sizes → changeValues r ≡ changeOf baseline measured sizes) ⌝ }
 {
     if baseline.count == 0 {
         return ChangeAnswer::Absent;

@@ -6,8 +6,7 @@ use criteria::Overall;
 use criteria::Target;
 use records::BaselineEntry;
 use records::VisitEntry;
-ghost use mathlib.Core.Path.{_≡_};
-ghost use Rattle.response.specs.Judging.{JudgesBaseline, measuredOf, JudgesVisit};
+ghost use Rattle.response.specs.Judging.{JudgesBaseline, JudgesVisit};
 
 mod sums; // sums.rt: sums of sizes, and whether every target is measured
 mod targets; // targets.rt: the target answer
@@ -44,43 +43,22 @@ pub fn judge_baseline(entry: BaselineEntry, nodes: [bool; 5], sizes: [u16; 5]) -
     }
 }
 
-// What the sizes of a visit come to. In this order of its fields the compiler keeps them apart.
-pub struct Measured {
-    // Every target is measured.
-    pub complete: bool,
-    // The sum of the measured.
-    pub sum: u32,
-    // Every node is normal and every other target gone.
-    pub gone: bool,
-}
-
-pub fn measure(count: u8, nodes: [bool; 5], measured: [bool; 5], sizes: [u16; 5]) -> Measured
-    ensures { λ m. ⌜ m ≡ measuredOf count nodes measured sizes ⌝ }
-{
-    let sum = sums::measured_sum(measured, sizes);
-    let complete = sums::all_measured(count, measured);
-    let gone = targets::all_gone(count, nodes, sizes);
-    Measured {
-        complete: complete,
-        sum: sum,
-        gone: gone,
-    }
-}
-
-// From what the sizes of the visit come to.
 pub fn judge_visit(
     baseline: BaselineDisease,
     earlier: Earlier,
     entry: VisitEntry,
-    m: Measured,
+    measured: [bool; 5],
+    sizes: [u16; 5],
 ) -> VisitAnswer
-    ensures { λ r. ⌜ JudgesVisit baseline earlier entry m r ⌝ }
+    ensures { λ r. ⌜ JudgesVisit baseline earlier entry measured sizes r ⌝ }
 {
     let status = entry.status;
-    let target = targets::target_answer(baseline, earlier, m.sum, m.complete, m.gone);
+    let sum = sums::measured_sum(measured, sizes);
+    let complete = sums::all_measured(baseline.count, measured);
+    let target = targets::target_answer(baseline, earlier, measured, sizes);
     let overall = grid::overall_answer(baseline.assessed, entry.newlesion, target, status);
-    let change = change::change_from_baseline(baseline, m.complete, m.sum);
-    let after = nadir::after_visit(earlier, m.complete, m.sum);
+    let change = change::change_from_baseline(baseline, complete, sum);
+    let after = nadir::after_visit(earlier, complete, sum);
     VisitAnswer {
         target: target,
         overall: overall,

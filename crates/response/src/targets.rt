@@ -1,10 +1,12 @@
 // The target answer: six rules, the first that applies.
+use super::sums::all_measured;
+use super::sums::measured_sum;
 use criteria::BaselineDisease;
 use criteria::Earlier;
 use criteria::Target;
 ghost use mathlib.Core.Path.{_≡_};
 ghost use Rattle.criteria.specs.Words.{targetWord};
-ghost use Rattle.criteria.specs.Targets.{gone, allGone, grown, shrunk, targetBy};
+ghost use Rattle.criteria.specs.Targets.{gone, allGone, grown, shrunk, targetAnswer};
 
 // The short axis in millimetres up to which a node is normal.
 const NORMAL_NODE: u16 = 9;
@@ -24,18 +26,14 @@ fn is_gone(node: bool, size: u16) -> bool
     (size == 0) | (node & (size <= NORMAL_NODE))
 }
 
-// The first target decides most visits; the others are joined without a branch, for speed.
-pub(crate) fn all_gone(count: u8, nodes: [bool; 5], sizes: [u16; 5]) -> bool
+fn all_gone(count: u8, nodes: [bool; 5], sizes: [u16; 5]) -> bool
     ensures { λ r. ⌜ r ≡ allGone count nodes sizes ⌝ }
 {
-    let first = is_gone(nodes[0], sizes[0]);
-    if (0 < count) & !first {
-        return false;
-    }
-    ((count <= 4) | is_gone(nodes[4], sizes[4]))
-        & (((count <= 3) | is_gone(nodes[3], sizes[3]))
-            & (((count <= 2) | is_gone(nodes[2], sizes[2]))
-                & (((count <= 1) | is_gone(nodes[1], sizes[1])) & ((count <= 0) | first))))
+    (count <= 0 || is_gone(nodes[0], sizes[0]))
+        && ((count <= 1 || is_gone(nodes[1], sizes[1]))
+            && ((count <= 2 || is_gone(nodes[2], sizes[2]))
+                && ((count <= 3 || is_gone(nodes[3], sizes[3]))
+                    && (count <= 4 || is_gone(nodes[4], sizes[4])))))
 }
 
 fn has_grown(nadir: u32, sum: u32) -> bool
@@ -50,20 +48,21 @@ fn has_shrunk(baseline: u32, sum: u32) -> bool
     10 * sum as u64 <= PARTIAL_TENTHS * baseline as u64
 }
 
-// From the sum of the measured, whether every target is measured and whether every one is gone.
 pub(crate) fn target_answer(
     baseline: BaselineDisease,
     earlier: Earlier,
-    sum: u32,
-    complete: bool,
-    gone: bool,
+    measured: [bool; 5],
+    sizes: [u16; 5],
 ) -> Target
-    ensures { λ r. ⌜ targetWord r ≡ targetBy baseline earlier sum complete gone ⌝ }
+    ensures { λ r. ⌜ targetWord r ≡ targetAnswer baseline earlier measured sizes ⌝ }
 {
     if baseline.count == 0 {
         return Target::NA;
     }
-    if complete & gone {
+    let nodes = baseline.nodes;
+    let sum = measured_sum(measured, sizes);
+    let complete = all_measured(baseline.count, measured);
+    if complete & all_gone(baseline.count, nodes, sizes) {
         return Target::CR;
     }
     if has_grown(earlier.nadir, sum) {

@@ -9,3 +9,6 @@ pub use best::best_of;
 pub use best::duration_of;
 pub use days::is_recorded;
 pub use pfs::pfs_of;
+
+// A death without an evaluable visit is an event up to this many days after day 1.
+pub const EARLY_DEATH: u32 = 91;

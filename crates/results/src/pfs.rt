@@ -1,4 +1,5 @@
 // Progression-free survival.
+use super::EARLY_DEATH;
 use super::days::days_between;
 use super::days::or_day_1;
 use super::gap::two_missed;
@@ -9,9 +10,6 @@ use endpoints::PfsStatus;
 ghost use mathlib.Core.Path.{_≡_};
 ghost use Rattle.endpoints.specs.Values.{dayValue, pfsValues, none, on};
 ghost use Rattle.endpoints.specs.Pfs.{eventUnlessMissed, pfsOf};
-
-// A death without an evaluable visit is an event up to this many days after day 1.
-const EARLY_DEATH: u32 = 91;
 
 fn event_unless_missed(day: StudyDay, previous: StudyDay, evaluable: MaybeDay) -> PfsResult
     ensures { λ r. ⌜ pfsValues r ≡ eventUnlessMissed (day .0) (previous .0) (dayValue evaluable) ⌝ }

@@ -25,10 +25,11 @@ use Rattle.held.specs.declared.Subject.{Subject}
 use Rattle.held.specs.Laws.{Within}
 use Rattle.held.proofs.Follows.{summary}
 use Rattle.held.proofs.Within.{subject-within}
-use Rattle.outcome.specs.Promises.{nextSubject, Added}
+use Rattle.placing.specs.Promises.{subjectBy, refusalHeld}
 use Rattle.outcome.specs.Laws.{DurationWithin, TellsWithin}
 use Rattle.outcome.proofs.Within.{calls-in-range}
-use Rattle.outcome.proofs.Runs.{opens, some-refusal, readable}
+use Rattle.outcome.proofs.Runs.{opens, readable}
+use Rattle.outcome.proofs.Answers.{some-addition}
 use Rattle.outcome.proofs.Demand.{first, base, on-day, past, past-one-more, Held, grown, reading}
 use Rattle.parts.specs.Parts.{badLength, parts, partsOf}
 use Rattle.file.specs.File.{refusalOfPart, refused, accepted, responseStartsLate, verdictFrom, verdictOf}
@@ -70,7 +71,7 @@ module _ (x : BaselineEntry) (marks : List Bool) (sizes : List ℕ) (passes : fi
     -- every visit is on or before the latest day
     latest-within : Within (latestDay (behind later))
     unfolding summary
-    latest-within = subst (λ (t : Subject). Within (t .latest .0)) (h .held .same) (subject-within s (h .held .inside) .latest)
+    latest-within = subst (λ (t : Subject). Within (t .followup .latest .0)) (h .held .same) (subject-within s (h .held .inside) .followup .latest)
 
     told-within : Within (outcome b (behind later) .pfs .day) × DurationWithin (outcome b (behind later) .duration)
     told-within =
@@ -110,10 +111,9 @@ module _ (x : BaselineEntry) (marks : List Bool) (sizes : List ℕ) (passes : fi
           own-passed (x .date) r (found-five part)
           (none-of-both r (refusalAfter (onStudyDays (whole later)) (on-day x marks sizes r)) .0 accepts .0)
 
-      one-more : Known (later ++ (r ∷ [])) (nextSubject s r)
+      one-more : Known (later ++ (r ∷ [])) (subjectBy s r (refusalHeld s r))
       one-more =
-          let some = some-refusal s r in
-          let added : Added s r (some .0) (nextSubject s r) = record { answer = some .1; left = refl } in
+          let added = some-addition s r .1 in
           record {
             held = grown x marks sizes later r (h .held) added (ap (λ (n : ℕ). eqb n 0) accepts);
             pass = ap allPass (past-one-more x marks sizes later r) ∙ rw passed (h .pass);
@@ -133,7 +133,7 @@ module _ (x : BaselineEntry) (marks : List Bool) (sizes : List ℕ) (passes : fi
           (onStudyDays (whole (later ++ map recordOfBytes (part ∷ ps)))))
           ≤ 24 * (length later + length (part ∷ ps)) + 47
       go true q more =
-          let bound = more (nextSubject s (recordOfBytes part)) (one-more later s h part (eqb-true (refusalOfPart (whole later) part) 0 q)) in
+          let bound = more (subjectBy s (recordOfBytes part) (refusalHeld s (recordOfBytes part))) (one-more later s h part (eqb-true (refusalOfPart (whole later) part) 0 q)) in
           let joined = append-assoc later (recordOfBytes part ∷ []) (map recordOfBytes ps) in
           omega (arith, rw joined at bound, length-append later (recordOfBytes part ∷ []))
       go false q more = omega (arith, refused-short (whole later) k part (omega arith))

@@ -2,15 +2,15 @@
 -- Assumes nothing.
 use Prim.Native.Nat.{ℕ, _/_, _%_}
 use mathlib.Core.Bool.{Bool}
-use mathlib.Core.List.{List, [], _∷_, _++_, map, reverse}
+use mathlib.Core.List.{List, [], _∷_, _++_, map}
 use lib.ListN.{length, drop}
 use Rattle.laws.specs.Choice.{pick}
 use Rattle.codec.specs.Reading.{recordOfBytes}
 use Rattle.criteria.specs.Words.{Word, CR, PR, SD, PD, NE, NA, NN}
 use Rattle.criteria.specs.Change.{Tenths}
 use Rattle.endpoints.specs.Values.{PfsWord, EVENT, CENSORED, Pfs, Duration, noDuration, forDays, Outcome}
-use Rattle.endpoints.specs.StudyRecords.{StudyRecord, baseline, visit, therapy, death, onStudyDays}
-use Rattle.endpoints.specs.Lines.{VisitLine, visitLines}
+use Rattle.endpoints.specs.StudyRecords.{StudyRecord, onStudyDays}
+use Rattle.endpoints.specs.Lines.{VisitLine, linesInOrder}
 use Rattle.parts.specs.Parts.{partsOf}
 use Rattle.file.specs.File.{Verdict, refused, accepted, verdictOf}
 use Rattle.text.specs.Numerals.{digit, decimal}
@@ -91,14 +91,6 @@ refusalText number index = lineOfFields ((82 ∷ []) ∷ decimal number ∷ deci
 abbrev pub linesText : List VisitLine → List ℕ
 linesText [] = []
 linesText (l ∷ ls) = visitText l ++ linesText ls
-
--- the lines of the visits of accepted records in the order recorded, baseline first
-abbrev pub linesInOrder : List StudyRecord → List VisitLine
-linesInOrder [] = []
-linesInOrder (baseline b ∷ rs) = visitLines b (reverse rs)
-linesInOrder (visit d v ∷ rs) = []
-linesInOrder (therapy d ∷ rs) = []
-linesInOrder (death d ∷ rs) = []
 
 -- a refused file prints only R
 abbrev pub listingText : Verdict → List StudyRecord → List ℕ

@@ -5,17 +5,19 @@ use Prim.Native.Nat.{_-_, _/_, _≤_}
 use borrow.Author.Needs.{needs}
 use native.Mathlib.Omega.{arith}
 use lib.ListN.{length}
+use Rattle.codec.specs.Bytes.{recordLength}
+use Rattle.parts.specs.Parts.{mostBytes}
 use Rattle.parts.proofs.Cut.{fair-length}
 use Rattle.file.proofs.Turns.{bad, first-refused, Standing, first-standing, turn-refused, turn, ended}
 use Rattle.file.proofs.judge_file.Statement.{statement}
 use Rattle.file.proofs.judge_file.Tie as tie
 
 abbrev Inv-loop : tie.InvT-loop
-Inv-loop bytes count subject₀ k₀ subject k =
-    (1 ≤ k) × (k ≤ count) × (count ≡ length bytes / 11) × (length bytes ≤ 44000) × Standing bytes subject k
+Inv-loop bytes unopened count subject₀ k₀ subject k =
+    (1 ≤ k) × (k ≤ count) × (count ≡ length bytes / recordLength) × (length bytes ≤ mostBytes) × Standing bytes subject k
 
 abbrev μ-loop : tie.MeasureT-loop
-μ-loop bytes count subject₀ k₀ subject k = count - k
+μ-loop bytes unopened count subject₀ k₀ subject k = count - k
 
 pub judge-file-spec : {M : Type 1} → statement M
 judge-file-spec =
@@ -31,8 +33,9 @@ judge-file-spec =
     (λ c. let h = fair-length (length (c .before .before .before .args .bytes .now)) (sym (c .before .bad-length .ensures) ∙ c .if1 .left) in omega arith)
     (λ c κs. search needs)
     (λ c κs. search needs)
-    (λ c. first-refused _ (sym (c .before .before .before .before .before .before .bad-length .ensures) ∙ c .before .before .before .before .before .if1 .left) _ _ (c .before .before .before .first-record .ensures) (c .before .if2 .taken) (c .refused2 .ensures))
-    (λ c. let h = fair-length (length (c .before .before .before .before .before .before .before .before .args .bytes .now)) (sym (c .before .before .before .before .before .before .bad-length .ensures) ∙ c .before .before .before .before .before .if1 .left) in (omega arith, omega arith, refl, h .2, first-standing _ (sym (c .before .before .before .before .before .before .bad-length .ensures) ∙ c .before .before .before .before .before .if1 .left) _ (c .before .before .before .first-record .ensures) (c .before .if2 .left)))
+    (λ c κs. search needs)
+    (λ c. first-refused _ (sym (c .before .before .before .before .before .before .bad-length .ensures) ∙ c .before .before .before .before .before .if1 .left) _ _ _ (c .before .before .before .open-bytes .ensures) (c .before .before .open-number .ensures) _ (c .before .if2 .taken) (c .refused2 .ensures))
+    (λ c. let h = fair-length (length (c .before .before .before .before .before .before .before .before .args .bytes .now)) (sym (c .before .before .before .before .before .before .bad-length .ensures) ∙ c .before .before .before .before .before .if1 .left) in (omega arith, omega arith, refl, h .2, first-standing _ (sym (c .before .before .before .before .before .before .bad-length .ensures) ∙ c .before .before .before .before .before .if1 .left) _ _ _ (c .before .before .before .open-bytes .ensures) (c .before .before .open-number .ensures) (c .before .if2 .left)))
     (λ c. omega arith)
     (λ c. omega arith)
     (λ c. search needs)
@@ -40,10 +43,11 @@ judge-file-spec =
     (λ c. omega arith)
     (λ c κs. search needs)
     (λ c κs. search needs)
-    (λ c. turn-refused _ _ _ (c .before .before .before .before .before .before .loop .inv .4) (c .before .before .before .before .before .loop-test .taken) _ (c .before .before .before .later-record .ensures) _ (c .before .if3 .taken) (c .refused3 .ensures))
+    (λ c κs. search needs)
+    (λ c. turn-refused _ _ _ (c .before .before .before .before .before .before .loop .inv .4) (c .before .before .before .before .before .loop-test .taken) _ _ _ (c .before .before .before .add-bytes .ensures) (c .before .before .add-number .ensures) _ (c .before .if3 .taken) (c .refused3 .ensures))
     (λ c. omega arith)
     (λ c. omega arith)
-    (λ c. (omega arith, omega arith, refl, c .before .before .before .before .before .before .loop .inv .3, turn _ _ _ (c .before .before .before .before .before .before .loop .inv .4) (c .before .before .before .before .before .loop-test .taken) _ (c .before .before .before .later-record .ensures) (c .before .if3 .left)))
+    (λ c. (omega arith, omega arith, refl, c .before .before .before .before .before .before .loop .inv .3, turn _ _ _ (c .before .before .before .before .before .before .loop .inv .4) (c .before .before .before .before .before .loop-test .taken) _ _ _ (c .before .before .before .add-bytes .ensures) (c .before .before .add-number .ensures) (c .before .if3 .left)))
     (λ c. omega arith)
     (λ c κs. search needs)
     (λ c. ended _ _ _ (c .before .before .loop .inv .4) (c .before .loop-test .left) _ (c .end-file .ensures)))

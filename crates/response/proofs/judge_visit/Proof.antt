@@ -1,4 +1,4 @@
--- `response::judge_visit` meets its contract: each part is what its rule ensures at what the sizes come to.
+-- `response::judge_visit` meets its contract: each part is what its rule ensures.
 -- Assumes nothing.
 use borrow.Author.Needs.{needs}
 use Rattle.response.proofs.judge_visit.Statement.{statement}
@@ -12,11 +12,15 @@ judge-visit-spec =
     (λ c κs. search needs)
     (λ c κs. search needs)
     (λ c κs. search needs)
+    (λ c κs. search needs)
+    (λ c κs. search needs)
     (λ c.
+    let sum = c .before .before .before .before .before .measured-sum .ensures in
+    let complete = c .before .before .before .before .all-measured .ensures in
     let t = c .before .before .before .target-answer .ensures in
     record {
       target = t;
       overall = rw (← t) (c .before .before .overall-answer .ensures);
-      change = c .before .change-from-baseline .ensures;
-      after = c .after-visit .ensures;
+      change = c .before .change-from-baseline .ensures _ _ complete sum;
+      after = c .after-visit .ensures _ _ _ complete sum;
     }))

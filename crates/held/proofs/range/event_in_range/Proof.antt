@@ -1,6 +1,7 @@
 -- `held::range::event_in_range` meets its contract.
 -- Assumes nothing.
 use borrow.Author.Needs.{needs}
+use Rattle.held.proofs.Returns.{by-evaluable, progression-outside, previous-outside}
 use Rattle.held.proofs.range.event_in_range.Statement.{statement}
 use Rattle.held.proofs.range.event_in_range.Tie as tie
 
@@ -11,4 +12,6 @@ event-in-range-spec =
     (λ c κs. search needs)
     (λ c κs. search needs)
     (λ c κs. search needs)
-    (λ c. rw (c .before .before .day-in-range .ensures, c .before .maybe-in-range .ensures, c .maybe-in-range2 .ensures)))
+    (λ c. search by-evaluable)
+    (λ c. search progression-outside)
+    (λ c. search previous-outside))

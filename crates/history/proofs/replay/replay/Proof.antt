@@ -5,12 +5,13 @@ use native.Mathlib.Omega.{arith}
 use mathlib.Core.Path.{_≡_, refl}
 use Prim.Native.Nat.{_-_, _/_, _≤_}
 use lib.ListN.{length}
+use Rattle.codec.specs.Bytes.{recordLength}
 use Rattle.history.proofs.Steps.{Goes, turn, ended, empty, replayed}
 use Rattle.history.proofs.replay.replay.Statement.{statement}
 use Rattle.history.proofs.replay.replay.Tie as tie
 
 abbrev Inv-loop : tie.InvT-loop
-Inv-loop bytes count subject₀ k₀ subject k = (1 ≤ k) × (k ≤ count) × (count ≡ length bytes / 11) × Goes bytes count subject₀ subject k
+Inv-loop bytes count subject₀ k₀ subject k = (1 ≤ k) × (k ≤ count) × (count ≡ length bytes / recordLength) × Goes bytes count subject₀ subject k
 
 abbrev μ-loop : tie.MeasureT-loop
 μ-loop bytes count subject₀ k₀ subject k = count - k

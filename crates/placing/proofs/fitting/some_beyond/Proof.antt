@@ -2,7 +2,7 @@
 -- Assumes nothing.
 use native.Mathlib.Omega.{arith}
 use Rattle.endpoints.specs.Lawful.{measuredBeyond}
-use Rattle.placing.proofs.Follow.{none-beyond}
+use Rattle.placing.proofs.Returns.{none-beyond}
 use Rattle.placing.proofs.fitting.some_beyond.Statement.{statement}
 use Rattle.placing.proofs.fitting.some_beyond.Tie as tie
 

@@ -10,6 +10,9 @@ target-answer-spec =
     tie.close
     (tie.spec
     (λ c. search no-targets)
+    (λ c κs. search needs)
+    (λ c κs. search needs)
+    (λ c κs. search needs)
     (λ c. search complete)
     (λ c κs. search needs)
     (λ c. search progressive)

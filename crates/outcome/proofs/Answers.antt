@@ -1,0 +1,181 @@
+-- Every addition has an answer: some responses have the values of a visit's line, and some case of the answer the number of a refusal.
+-- Assumes nothing.
+use mathlib.Core.Path.{_≡_, refl, sym, _∙_, ap}
+use mathlib.Core.Bool.{Bool, true, false, not}
+use mathlib.Core.List.{List, [], _∷_}
+use Prim.Native.Nat.{ℕ, zero, suc}
+use lib.Dec.{ltb, eqb}
+use lib.ListN.{getD}
+use borrow.Author.Tests.{eqb-true, eqb-false}
+use Rattle.laws.specs.Choice.{both, either, pick}
+use Rattle.laws.proofs.Cases.{Some, pick-some}
+use Rattle.dates.specs.declared.StudyDay.{StudyDay}
+use Rattle.dates.specs.Calendar.{dateExists}
+use Rattle.records.specs.declared.Entry.{Entry}
+use Rattle.records.specs.declared.Entry.the-variants as E
+use Rattle.records.specs.declared.VisitEntry.{VisitEntry}
+use Rattle.records.specs.declared.Record.{Record}
+use Rattle.records.specs.Form.{dateOf, kindNumber}
+use Rattle.records.specs.Refusals.{outsideLimits, notZero, refusalOfRead, refusalOf}
+use Rattle.records.proofs.Passed.{some-own}
+use Rattle.criteria.specs.declared.Target.the-variants as T
+use Rattle.criteria.specs.declared.Overall.the-variants as O
+use Rattle.criteria.specs.declared.ChangeAnswer.the-variants as C
+use Rattle.criteria.specs.Words.{Word, CR, PR, SD, PD, NE, targetWord, statusWord, overallWord}
+use Rattle.criteria.specs.Sums.{measuredSum, allMeasured}
+use Rattle.criteria.specs.Targets.{allGone, grown, shrunk, targetAnswer}
+use Rattle.criteria.specs.Overall.{grid, rowOf, columnOf, isPD, overallAnswer}
+use Rattle.criteria.specs.Change.{Tenths, signed, roundedChange, changeValues, changeBetween, changeOf}
+use Rattle.endpoints.specs.Values.{isRecorded, dayValue}
+use Rattle.endpoints.specs.Adding.{afterOwn}
+use Rattle.endpoints.specs.Lines.{VisitLine}
+use Rattle.held.specs.declared.Enrolment.{Enrolment}
+use Rattle.held.specs.declared.FollowUp.{FollowUp}
+use Rattle.held.specs.declared.Subject.{Subject}
+use Rattle.held.specs.Range.{inRange}
+use Rattle.placing.specs.declared.AddAnswer.{AddAnswer}
+use Rattle.placing.specs.declared.AddAnswer.the-variants as A
+use Rattle.placing.specs.Added.{answerOn}
+use Rattle.placing.specs.Lines.{responseValues, addResponses, lineOn, linesOn}
+use Rattle.placing.specs.Refusals.{addNumber, earlyOn, misfitOn, refusalOn}
+use Rattle.placing.specs.Promises.{dayOn, refusalOnDay, responsesBy, subjectBy, refusalHeld, Added}
+
+-- ---- the responses at a visit
+
+some-target : (e : Enrolment) (f : FollowUp) (measured : List Bool) (sizes : List ℕ) → Some targetWord (targetAnswer (e .baseline) (f .earlier) measured sizes)
+unfolding targetAnswer
+some-target e f measured sizes =
+    pick-some targetWord (eqb (e .baseline .count) 0) _ _ (T.NA, refl)
+    (pick-some targetWord (both (allMeasured (e .baseline .count) measured) (allGone (e .baseline .count) (e .baseline .nodes) sizes)) _ _ (T.CR, refl)
+    (pick-some targetWord (grown (f .earlier .nadir) (measuredSum measured sizes)) _ _ (T.PD, refl)
+    (pick-some targetWord (not (allMeasured (e .baseline .count) measured)) _ _ (T.NE, refl)
+    (pick-some targetWord (shrunk (e .baseline .sum) (measuredSum measured sizes)) _ _ (T.PR, refl) (T.SD, refl)))))
+
+-- the cells of the grid
+abbrev AllSome : List Word → Type 0
+AllSome [] = Unit {0}
+AllSome (w ∷ ws) = Some overallWord w × AllSome ws
+
+some-at : (ws : List Word) (i : ℕ) → AllSome ws → Some overallWord (getD ws i NE)
+some-at [] i a = (O.NE, refl)
+some-at (w ∷ ws) zero a = a .0
+some-at (w ∷ ws) (suc i) a = some-at ws i (a .1)
+
+abbrev AllRows : List (List Word) → Type 0
+AllRows [] = Unit {0}
+AllRows (w ∷ ws) = AllSome w × AllRows ws
+
+row-at : (ws : List (List Word)) (i : ℕ) → AllRows ws → AllSome (getD ws i [])
+row-at [] i a = tt
+row-at (w ∷ ws) zero a = a .0
+row-at (w ∷ ws) (suc i) a = row-at ws i (a .1)
+
+cr : Some overallWord CR
+cr = (O.CR, refl)
+
+pr : Some overallWord PR
+pr = (O.PR, refl)
+
+sd : Some overallWord SD
+sd = (O.SD, refl)
+
+ne : Some overallWord NE
+ne = (O.NE, refl)
+
+four : {a b c d : Word} → Some overallWord a → Some overallWord b → Some overallWord c → Some overallWord d → AllSome (a ∷ b ∷ c ∷ d ∷ [])
+four w x y z = (w, (x, (y, (z, tt))))
+
+all-rows : AllRows grid
+all-rows = (four cr pr pr cr, (four pr pr pr pr, (four sd sd sd sd, (four ne ne ne ne, (four cr sd ne ne, tt)))))
+
+some-overall : (assessed newLesion : Bool) (target nontarget : Word) → Some overallWord (overallAnswer assessed newLesion target nontarget)
+unfolding overallAnswer
+some-overall assessed newLesion target nontarget =
+    pick-some overallWord (not assessed) _ _ (O.NE, refl)
+    (pick-some overallWord (either newLesion (either (isPD target) (isPD nontarget))) _ _ (O.PD, refl)
+    (some-at (getD grid (rowOf target) []) (columnOf nontarget) (row-at grid (rowOf target) all-rows)))
+
+some-change : (e : Enrolment) (measured : List Bool) (sizes : List ℕ) → Some changeValues (changeOf (e .baseline) measured sizes)
+unfolding changeOf changeBetween
+some-change e measured sizes =
+    pick-some changeValues
+    (either (eqb (e .baseline .count) 0) (either (not (allMeasured (e .baseline .count) measured)) (eqb (e .baseline .sum) 0))) _ _ (C.Absent, refl)
+    (go (both (ltb (measuredSum measured sizes) (e .baseline .sum)) (ltb 0 (roundedChange (e .baseline .sum) (measuredSum measured sizes)))))
+  where
+    go : (x : Bool) → Some changeValues (signed x (roundedChange (e .baseline .sum) (measuredSum measured sizes)))
+    go true = (C.Decrease (roundedChange (e .baseline .sum) (measuredSum measured sizes)), refl)
+    go false = (C.Increase (roundedChange (e .baseline .sum) (measuredSum measured sizes)), refl)
+
+some-responses : (e : Enrolment) (f : FollowUp) (day : StudyDay) (v : VisitEntry) (measured : List Bool) (sizes : List ℕ) →
+    Some responseValues (lineOn e f day v measured sizes)
+unfolding answerOn
+some-responses e f day v measured sizes =
+    let target = some-target e f measured sizes in
+    let overall = some-overall (e .baseline .assessed) (v .newlesion) (targetAnswer (e .baseline) (f .earlier) measured sizes) (statusWord (v .status)) in
+    let change = some-change e measured sizes in (
+      record { day = day; target = target .0; nontarget = v .status; overall = overall .0; change = change .0 },
+      λ i. record { day = day .0; target = target .1 i; nontarget = statusWord (v .status); overall = overall .1 i; change = change .1 i },
+    )
+
+-- ---- a refusal
+
+some-placing : (second dead early misfit : Bool) → Some addNumber (pick second 8 (pick dead 9 (pick early 10 (pick misfit 11 0))))
+some-placing true dead early misfit = (A.SecondBaseline, refl)
+some-placing false true early misfit = (A.AfterDeath, refl)
+some-placing false false true misfit = (A.TooEarly, refl)
+some-placing false false false true = (A.Misfit, refl)
+some-placing false false false false = (A.Done, refl)
+
+pub some-behind : (s : Subject) (r : Record) → Some addNumber (refusalOnDay s r)
+unfolding refusalOn
+some-behind s r =
+    some-placing (eqb (kindNumber (r .entry)) 1) (isRecorded (dayValue (s .followup .death))) (earlyOn (s .followup) (dayOn s r) (r .entry)) (misfitOn (s .enrolment) (r .entry) (r .marks))
+
+pub some-refusal : (s : Subject) (r : Record) → Some addNumber (refusalHeld s r)
+unfolding refusalHeld refusalOfRead
+some-refusal s r =
+    pick-some addNumber (inRange s) (afterOwn r (refusalOnDay s r)) 12
+    (pick-some addNumber (eqb (refusalOf r) 0) (refusalOnDay s r) (refusalOf r) (some-behind s r)
+    (some-own addNumber (A.NoSuchDate, refl) (A.OutsideLimits, refl) (A.NotZero, refl) (A.Done, refl) (not (dateExists (dateOf (r .entry)))) (outsideLimits (r .entry) (r .marks) (r .sizes)) (notZero (r .entry) (r .marks) (r .sizes))))
+    (A.OutOfRange, refl)
+
+-- ---- an answer
+
+-- the lines of a record, from an answer that says 'done'
+some-done : (e : Enrolment) (f : FollowUp) (day : StudyDay) (r : Entry) (marks : List Bool) (sizes : List ℕ) →
+    (a : AddAnswer) × (addNumber a ≡ 0) × (addResponses a ≡ linesOn e f day r marks sizes)
+some-done e f day (E.Baseline b) marks sizes = (A.Done, refl, refl)
+some-done e f day (E.Visit v) marks sizes =
+    let some = some-responses e f day v marks sizes in
+    (A.Judged (some .0), refl, ap (λ (l : VisitLine). l ∷ []) (some .1))
+some-done e f day (E.Therapy d) marks sizes = (A.Done, refl, refl)
+some-done e f day (E.Death d) marks sizes = (A.Done, refl, refl)
+
+-- a refusal has no responses
+none-beside : (a : AddAnswer) → eqb (addNumber a) 0 ≡ false → addResponses a ≡ []
+none-beside A.Done h = refl
+none-beside (A.Judged v) h = absurd (eqb-false 0 0 h refl)
+none-beside A.NotElevenBytes h = refl
+none-beside A.NoSuchKind h = refl
+none-beside A.NoSuchDate h = refl
+none-beside A.OutsideLimits h = refl
+none-beside A.NotZero h = refl
+none-beside A.SecondBaseline h = refl
+none-beside A.AfterDeath h = refl
+none-beside A.TooEarly h = refl
+none-beside A.Misfit h = refl
+none-beside A.OutOfRange h = refl
+
+pub some-answer : (s : Subject) (r : Record) (n : ℕ) → Some addNumber n → (a : AddAnswer) × (addNumber a ≡ n) × (addResponses a ≡ responsesBy s r n)
+some-answer s r n some = go (eqb n 0) refl
+  where
+    go : (x : Bool) → eqb n 0 ≡ x → (a : AddAnswer) × (addNumber a ≡ n) × (addResponses a ≡ responsesBy s r n)
+    go true e =
+        let done = some-done (s .enrolment) (s .followup) (dayOn s r) (r .entry) (r .marks) (r .sizes) in
+        (done .0, done .1 ∙ sym (eqb-true n 0 e), done .2 ∙ rw e)
+    go false e = (some .0, some .1, none-beside (some .0) (ap (λ (m : ℕ). eqb m 0) (some .1) ∙ e) ∙ rw e)
+
+pub some-addition : (s : Subject) (r : Record) → (a : AddAnswer) × Added s r a (subjectBy s r (refusalHeld s r))
+some-addition s r =
+    let some = some-answer s r (refusalHeld s r) (some-refusal s r) in
+    (some .0, record { answer = some .1; responses = some .2; left = refl })

@@ -1,0 +1,16 @@
+-- `placing::adding::add_bytes` meets its contract.
+-- Assumes nothing.
+use borrow.Author.Needs.{needs}
+use Rattle.placing.proofs.Called.{bytes-added}
+use Rattle.placing.proofs.adding.add_bytes.Statement.{statement}
+use Rattle.placing.proofs.adding.add_bytes.Tie as tie
+
+pub add-bytes-spec : {M : Type 1} → statement M
+add-bytes-spec =
+    tie.close
+    (tie.spec
+    (λ c κs. search needs)
+    (λ c κs. search needs)
+    (λ c κs. search needs)
+    (λ c κs. search needs)
+    (λ c. search bytes-added))

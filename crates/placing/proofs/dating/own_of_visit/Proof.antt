@@ -1,0 +1,16 @@
+-- `placing::dating::own_of_visit` meets its contract.
+-- Assumes nothing.
+use borrow.Author.Needs.{needs}
+use Rattle.placing.proofs.Called.{own-no-date, own-by-fields}
+use Rattle.placing.proofs.dating.own_of_visit.Statement.{statement}
+use Rattle.placing.proofs.dating.own_of_visit.Tie as tie
+
+pub own-of-visit-spec : {M : Type 1} → statement M
+own-of-visit-spec =
+    tie.close
+    (tie.spec
+    (λ c κs. search needs)
+    (λ c. search own-no-date)
+    (λ c κs. search needs)
+    (λ c κs. search needs)
+    (λ c. search own-by-fields))

@@ -1,0 +1,15 @@
+-- `placing::stepping::place_visit` meets its contract.
+-- Assumes nothing.
+use borrow.Author.Needs.{needs}
+use Rattle.placing.proofs.Returns.{visit-placed}
+use Rattle.placing.proofs.stepping.place_visit.Statement.{statement}
+use Rattle.placing.proofs.stepping.place_visit.Tie as tie
+
+pub place-visit-spec : {M : Type 1} → statement M
+place-visit-spec =
+    tie.close
+    (tie.spec
+    (λ c κs. search needs)
+    (λ c κs. search needs)
+    (λ c κs. search needs)
+    (λ c. search visit-placed))

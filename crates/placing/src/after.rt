@@ -1,0 +1,76 @@
+// The follow-up after a record.
+use criteria::Overall;
+use dates::StudyDay;
+use endpoints::MaybeDay;
+use held::CountingVisits;
+use held::FollowUp;
+use held::counted_after;
+use held::event_after;
+use response::VisitAnswer;
+use results::is_recorded;
+ghost use mathlib.Core.Path.{_≡_};
+ghost use Rattle.laws.specs.Choice.{pick};
+ghost use Rattle.criteria.specs.Words.{overallWord};
+ghost use Rattle.held.specs.Visits.{countedAfter};
+ghost use Rattle.placing.specs.Added.{answerAdded, later as laterOn, therapyAdded, deathAdded};
+
+fn counted_unless(closed: bool, c: CountingVisits, day: StudyDay, answer: Overall) -> CountingVisits
+    ensures { λ r. ⌜ r ≡ pick closed c (countedAfter c day (overallWord answer)) ⌝ }
+{
+    if closed {
+        return c;
+    }
+    counted_after(c, day, answer)
+}
+
+pub(crate) fn after_visit(f: FollowUp, day: StudyDay, judged: VisitAnswer) -> FollowUp
+    ensures { λ r. ⌜ r ≡ answerAdded f day (judged .after) (overallWord (judged .overall)) ⌝ }
+{
+    let death = f.death;
+    let before = f.event;
+    let progression = before.progression;
+    let counting = f.counted;
+    let answer = judged.overall;
+    let after = judged.after;
+    let closed = f.therapy | is_recorded(progression);
+    let event = event_after(before, day, answer);
+    let counted = counted_unless(closed, counting, day, answer);
+    FollowUp {
+        earlier: after,
+        latest: day,
+        therapy: f.therapy,
+        death: death,
+        event: event,
+        counted: counted,
+    }
+}
+
+// On a later day, with or without a therapy and a death.
+fn later(f: FollowUp, day: StudyDay, therapy: bool, death: MaybeDay) -> FollowUp
+    ensures { λ r. ⌜ r ≡ laterOn f day therapy death ⌝ }
+{
+    let earlier = f.earlier;
+    let event = f.event;
+    let counted = f.counted;
+    FollowUp {
+        earlier: earlier,
+        latest: day,
+        therapy: therapy,
+        death: death,
+        event: event,
+        counted: counted,
+    }
+}
+
+pub(crate) fn after_therapy(f: FollowUp, day: StudyDay) -> FollowUp
+    ensures { λ r. ⌜ r ≡ therapyAdded f day ⌝ }
+{
+    let death = f.death;
+    later(f, day, true, death)
+}
+
+pub(crate) fn after_death(f: FollowUp, day: StudyDay) -> FollowUp
+    ensures { λ r. ⌜ r ≡ deathAdded f day ⌝ }
+{
+    later(f, day, f.therapy, MaybeDay::On(day))
+}
