@@ -1,5 +1,5 @@
 // What the response rules take and answer (document 01, "Visit responses" and "Change in size, file and listing"). The rules' definitions
-// stand in specs/, and what document 01 says of them is proved here; the code that follows them is the crate `response`.
+// stand in specs/, and what document 01 says of them is proved here; the code that follows them stands in the crates `grid` and `response`.
 
 // What a baseline leaves for judging visits.
 pub struct BaselineDisease {

@@ -1,5 +1,5 @@
-// A file cut into the bytes of its records, and whether its length lets it be cut (document 01, "Change in size, file and listing" and "Where a
-// call stops", 13). That nothing is lost by cutting is proved here.
+// Whether the length of a file lets it be cut into the bytes of its records (document 01, "Change in size, file and listing" and "Where a call
+// stops", 13). How it is cut is defined in specs/, and that nothing is lost by it is proved here.
 ghost use mathlib.Core.Path.{_≡_};
 ghost use Rattle.parts.specs.Parts.{badLength};
 
