@@ -19,7 +19,7 @@ use Rattle.endpoints.specs.Settled.{settledFrom, pfsSettledBy, bestSettl
 use Rattle.endpoints.specs.Adding.{refusalBehind, refusalOfOpening, refusalOfAdding}
 use Rattle.endpoints.specs.Examples.{starred, Hold}
 use Rattle.endpoints.specs.FurtherExamples.{WordsOfCases, further, PrintedLines, FieldsThatPass}
-use Rattle.endpoints.specs.AddingExamples.{Unlawful, FittingStatuses, OnStudyDays, FirstRefusals}
+use Rattle.endpoints.specs.AddingExamples.{Unlawful, FittingStatuses, OnStudyDays, FirstRefusals, RepliedOfVisits}
 
 pub examples-hold : Hold starred × Hold further
 unfolding starred further entryPasses wrongSize largeMeasured setBeyond sizedUnmeasured withoutDisease outsideLimits notZero measuredBeyond fitsBy fits measuredSum baselineSum allMeasured allGone grown shrunk targetAnswer nadirOf overallAnswer judge gapLimit earlyDeath pfs best duration settledFrom pfsSettledBy bestSettledBy durationSettledBy pfsSettled bestSettled durationSettled
@@ -111,3 +111,7 @@ first-refusals =
       afterProgression = refl;
       calls = refl;
     }
+
+pub replied-of-visits : RepliedOfVisits
+unfolding refusalOfAdding refusalBehind refusalOfRead dateExists daysInMonth leapYear daysOfYears daysOfMonths dayNumber studyDayOf measuredBeyond fitsBy fits wrongSize largeMeasured setBeyond sizedUnmeasured withoutDisease outsideLimits notZero lineOf measuredSum baselineSum allMeasured allGone grown shrunk targetAnswer nadirOf overallAnswer changeBetween changeOf
+replied-of-visits = record { visit = refl; second = refl; therapy = refl; death = refl; again = refl; misfit = refl }
