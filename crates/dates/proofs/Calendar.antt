@@ -1,4 +1,4 @@
--- The laws of the calendar: existing dates have numbers from 1 to 40177, in the order of the dates, each its own.
+-- The laws of the calendar: existing dates have numbers from 1 to 40,177, in the order of the dates, each its own.
 -- Assumes nothing.
 use mathlib.Core.Path.{_≡_, refl, sym}
 use mathlib.Core.Bool.{Bool, true, false}
@@ -11,7 +11,7 @@ use lib.Dec.{ltb, eqb}
 use borrow.Author.Tests.{ltb-true, eqb-true, eqb-false}
 use Rattle.laws.specs.Choice.{both, either, pick}
 use Rattle.laws.proofs.Tests.{both-true}
-use Rattle.dates.specs.Calendar.{leapYear, daysInMonth, dateExists, daysOfYears, daysOfMonths, dayNumber}
+use Rattle.dates.specs.Calendar.{firstYear, lastDayNumber, leapYear, daysInMonth, daysOfYears, daysOfMonths, dayNumber}
 use Rattle.dates.specs.Laws.{earlier, ymd, CalendarLaws}
 use Rattle.dates.specs.declared.Date.{Date}
 use Rattle.dates.proofs.Days.{Exists, exists}
@@ -39,7 +39,7 @@ month-end leap zero h = omega arith
 month-end leap (suc k) h = simp unary-clauses
 
 -- the days before a year and the year's own are the days to its end
-year-end : (y : ℕ) → 1990 ≤ y → daysOfYears (y - 1990) + pick (leapYear y) 366 365 ≡ daysOfYears (suc (y - 1990))
+year-end : (y : ℕ) → firstYear ≤ y → daysOfYears (y - firstYear) + pick (leapYear y) 366 365 ≡ daysOfYears (suc (y - firstYear))
 unfolding daysOfYears
 year-end y h = rw (add-sub-of-le h)
 
@@ -53,7 +53,7 @@ module _ (d : Date) (v : Exists d) where
   within-month : daysOfMonths (leapYear (d .year)) (d .month - 1) + d .day ≤ daysOfMonths (leapYear (d .year)) (d .month)
   within-month = omega (arith, month-end (leapYear (d .year)) (d .month) (v .firstMonth))
 
-  within-year : dayNumber d ≤ daysOfYears (suc (d .year - 1990))
+  within-year : dayNumber d ≤ daysOfYears (suc (d .year - firstYear))
   unfolding dayNumber
   within-year =
       omega (
@@ -61,12 +61,12 @@ module _ (d : Date) (v : Exists d) where
         within-month,
         months-monotone (leapYear (d .year)) (d .month) 12 (v .lastMonth),
         year-length (leapYear (d .year)),
-        year-end (d .year) (v .firstYear),
+        year-end (d .year) (v .notBefore),
       )
 
-  in-range : (1 ≤ dayNumber d) × (dayNumber d ≤ 40177)
+  in-range : (1 ≤ dayNumber d) × (dayNumber d ≤ lastDayNumber)
   unfolding dayNumber daysOfYears leapYear
-  in-range = (omega arith, le-trans within-year (years-monotone (suc (d .year - 1990)) 110 (omega arith)))
+  in-range = (omega arith, le-trans within-year (years-monotone (suc (d .year - firstYear)) 110 (omega arith)))
 
 either-true : (a b : Bool) → either a b ≡ true → (a ≡ true) ⊎ (b ≡ true)
 either-true true b e = inl refl
@@ -76,7 +76,7 @@ either-true false b e = inr e
 module _ (d e : Date) (v : Exists d) (w : Exists e) where
   later-year : d .year < e .year → dayNumber d < dayNumber e
   unfolding dayNumber
-  later-year h = omega (arith, within-year d v, years-monotone (suc (d .year - 1990)) (e .year - 1990) (omega arith))
+  later-year h = omega (arith, within-year d v, years-monotone (suc (d .year - firstYear)) (e .year - firstYear) (omega arith))
 
   later-month : d .year ≡ e .year → d .month < e .month → dayNumber d < dayNumber e
   unfolding dayNumber

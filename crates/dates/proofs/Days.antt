@@ -10,7 +10,7 @@ use borrow.Author.Tests.{lt-ltb, le-ltb, le-leb, lt-leb, ne-eqb, eqb-true, eqb-f
 use Rattle.laws.specs.Choice.{both, either, pick}
 use Rattle.laws.proofs.Tests.{both-true}
 use Rattle.laws.proofs.Every.{all-at}
-use Rattle.dates.specs.Calendar.{leapYear, daysInMonth, dateExists, daysOfYears, daysOfMonths}
+use Rattle.dates.specs.Calendar.{firstYear, lastYear, leapYear, daysInMonth, dateExists, daysOfYears, daysOfMonths}
 use Rattle.dates.specs.declared.Date.{Date}
 
 -- a closed form has the days, and a bound
@@ -58,28 +58,28 @@ abbrev yearsRight : ℕ → Bool
 yearsRight k = isRight (k * 365 + (k + 1) / 4) (daysOfYears k + 0) 39813
 
 abbrev leapsRight : ℕ → Bool
-leapsRight k = isRight (k * 365 + (k + 2) / 4) (daysOfYears k + pick (leapYear (1990 + k)) 1 0) 39813
+leapsRight k = isRight (k * 365 + (k + 2) / 4) (daysOfYears k + pick (leapYear (firstYear + k)) 1 0) 39813
 
 abbrev toMonth : ℕ → ℕ → ℕ
-toMonth y m = daysOfYears (y - 1990) + pick (both (ltb 2 m) (leapYear y)) 1 0
+toMonth y m = daysOfYears (y - firstYear) + pick (both (ltb 2 m) (leapYear y)) 1 0
 
-module _ (y m : ℕ) (first : 1990 ≤ y) (last : y ≤ 2099) where
+module _ (y m : ℕ) (first : firstYear ≤ y) (last : y ≤ lastYear) where
   pub without-leap-day : m ≤ 2 →
-      ((y - 1990) * 365 + (y - 1990 + 1) / 4 ≡ toMonth y m) × ((y - 1990) * 365 + (y - 1990 + 1) / 4 ≤ 39813)
+      ((y - firstYear) * 365 + (y - firstYear + 1) / 4 ≡ toMonth y m) × ((y - firstYear) * 365 + (y - firstYear + 1) / 4 ≤ 39813)
   unfolding daysOfYears leapYear
   without-leap-day h =
-      rw (le-ltb 2 m h) (is-right _ (daysOfYears (y - 1990) + 0) 39813 (all-at yearsRight 110 refl (y - 1990) (omega arith)))
+      rw (le-ltb 2 m h) (is-right _ (daysOfYears (y - firstYear) + 0) 39813 (all-at yearsRight 110 refl (y - firstYear) (omega arith)))
 
   pub with-leap-day : 2 < m →
-      ((y - 1990) * 365 + (y - 1990 + 2) / 4 ≡ toMonth y m) × ((y - 1990) * 365 + (y - 1990 + 2) / 4 ≤ 39813)
+      ((y - firstYear) * 365 + (y - firstYear + 2) / 4 ≡ toMonth y m) × ((y - firstYear) * 365 + (y - firstYear + 2) / 4 ≤ 39813)
   unfolding daysOfYears leapYear
   with-leap-day h =
-      let r = is-right _ (daysOfYears (y - 1990) + pick (leapYear (1990 + (y - 1990))) 1 0) 39813 (all-at leapsRight 110 refl (y - 1990) (omega arith)) in
+      let r = is-right _ (daysOfYears (y - firstYear) + pick (leapYear (firstYear + (y - firstYear))) 1 0) 39813 (all-at leapsRight 110 refl (y - firstYear) (omega arith)) in
       rw (lt-ltb 2 m h) (rw (add-sub-of-le first) at r)
 
 pub record Exists (d : Date) : Type 0 where
-  pub firstYear : 1990 ≤ d .year
-  pub lastYear : d .year ≤ 2099
+  pub notBefore : firstYear ≤ d .year
+  pub notAfter : d .year ≤ lastYear
   pub firstMonth : 1 ≤ d .month
   pub lastMonth : d .month ≤ 12
   pub firstDay : 1 ≤ d .day
@@ -101,13 +101,13 @@ month-exists leap m k h g = (first (eqb m 0) refl, last (ltb 12 m) refl)
 pub exists : (d : Date) → dateExists d ≡ true → Exists d
 unfolding dateExists
 exists d e =
-    let a = both-true (leb 1990 (d .year)) _ e in
-    let b = both-true (leb (d .year) 2099) _ (a .1) in
+    let a = both-true (leb firstYear (d .year)) _ e in
+    let b = both-true (leb (d .year) lastYear) _ (a .1) in
     let r = both-true (leb 1 (d .day)) _ (b .1) in
     let m = month-exists (leapYear (d .year)) (d .month) (d .day) (leb-true _ _ (r .0)) (leb-true _ _ (r .1)) in
     record {
-      firstYear = leb-true _ _ (a .0);
-      lastYear = leb-true _ _ (b .0);
+      notBefore = leb-true _ _ (a .0);
+      notAfter = leb-true _ _ (b .0);
       firstMonth = m .0;
       lastMonth = m .1;
       firstDay = leb-true _ _ (r .0);

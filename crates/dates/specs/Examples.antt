@@ -2,7 +2,7 @@
 -- proofs/AtTheEdges.antt.
 -- Assumes nothing.
 use mathlib.Core.Path.{_≡_}
-use mathlib.Core.Bool.{Bool, true, false}
+use mathlib.Core.Bool.{true, false}
 use mathlib.Core.List.{List, [], _∷_, map}
 use Prim.Native.Nat.{ℕ}
 use Rattle.dates.specs.Calendar.{lastDayNumber, leapYear, dateExists, dayNumber}

@@ -11,7 +11,7 @@ use Rattle.laws.proofs.Tests.{never}
 use Rattle.criteria.specs.Words.{Word, CR, PR, SD, PD, NE, NA, NN}
 use Rattle.criteria.specs.Inputs.{Visit}
 use Rattle.endpoints.specs.Values.{Day, none, on, isRecorded, _orElse_, orDay1, Pfs, PfsWord, Duration, noDuration, forDays, exists}
-use Rattle.endpoints.specs.StudyRecords.{Baseline, baseline, visit, therapy, death, fieldsPass}
+use Rattle.endpoints.specs.StudyRecords.{Baseline, baseline, visit, fieldsPass}
 use Rattle.endpoints.specs.Lawful.{Past, latestDay, died, lawfulBehind}
 use Rattle.endpoints.specs.Visits.{Judged, therapyRecorded, judge, progression, countingClosed, counting}
 use Rattle.endpoints.specs.Pfs.{pfs}
@@ -19,7 +19,7 @@ use Rattle.endpoints.specs.Best.{isCR, isResponse, confirmDays, complete
 use Rattle.endpoints.proofs.Behind.{recorded-on, absent, from-day-1, Unchanged}
 use Rattle.endpoints.proofs.BestLasts.{words-of-best, confirmed-best}
 use Rattle.endpoints.proofs.CompleteVisit.{completeVisit, complete-judged, complete-passes, complete-lawful}
-use Rattle.endpoints.proofs.PfsChanges.{Until, censored-until, open-pfs, oneMore, one-more-lawful, one-more-pfs}
+use Rattle.endpoints.proofs.PfsChanges.{Until, counting-until, censored-until, open-pfs, oneMore, one-more-lawful, one-more-pfs}
 
 -- where best is CR or PR there is a first response
 first-of-confirmed : (c : List Judged) → either (confirmedCR c) (confirmedResponse c) ≡ true → isRecorded (firstResponse c) ≡ true
@@ -95,18 +95,6 @@ module _ (b : Baseline) (p : Past) (alive : died p ≡ false) (passes : fieldsPa
       never (sym there ∙ ap exists (two-more-same duration lasts) ∙ short)
 
 -- the first response is on a day up to the latest
-counting-until : (b : Baseline) (d : ℕ) (p : Past) → latestDay p ≤ d → Until d (counting b p)
-unfolding judge
-counting-until b d [] h = tt
-counting-until b d (baseline x ∷ p) h = counting-until b d p (omega arith)
-counting-until b d (visit t v ∷ p) h = go (countingClosed b p) (counting-until b d p (omega arith))
-  where
-    go : (x : Bool) → Until d (counting b p) → Until d (pick x (counting b p) (judge b p t v ∷ counting b p))
-    go true u = u
-    go false u = (omega arith, u)
-counting-until b d (therapy t ∷ p) h = counting-until b d p (omega arith)
-counting-until b d (death t ∷ p) h = counting-until b d p (omega arith)
-
 first-until : (d : ℕ) (c : List Judged) → 1 ≤ d → Until d c → orDay1 (firstResponse c) ≤ d
 first-until d [] one u = one
 first-until d (j ∷ c) one u = go (firstResponse c) (isResponse (j .answer)) (first-until d c one (u .1))

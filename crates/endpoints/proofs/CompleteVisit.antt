@@ -64,13 +64,14 @@ unfolding sizedUnmeasured
 not-sized true = refl
 not-sized false = refl
 
--- 4 meets no field that passes
-inside-limits : (e : Entry) (marks : List Bool) (sizes : List ℕ) → entryPasses e marks sizes ≡ true → outsideLimits e marks sizes ≡ false
+-- neither 4 nor 5 meets fields that pass
+pub limits-and-zeros : (e : Entry) (marks : List Bool) (sizes : List ℕ) → entryPasses e marks sizes ≡ true →
+    (outsideLimits e marks sizes ≡ false) × (notZero e marks sizes ≡ false)
 unfolding entryPasses
-inside-limits e marks sizes passes =
+limits-and-zeros e marks sizes passes =
     let five = both (eqb (length marks) mostTargets) (eqb (length sizes) mostTargets) in
-    let clear = both-true five (not (either (outsideLimits e marks sizes) (notZero e marks sizes))) passes .1 in
-    either-false (outsideLimits e marks sizes) (notZero e marks sizes) (not-true (either (outsideLimits e marks sizes) (notZero e marks sizes)) clear) .0
+    let met = either (outsideLimits e marks sizes) (notZero e marks sizes) in
+    either-false (outsideLimits e marks sizes) (notZero e marks sizes) (not-true met (both-true five (not met) passes .1))
 
 -- so an assessed baseline has disease
 with-disease : (b : BaselineEntry) (marks : List Bool) (sizes : List ℕ) → outsideLimits (E.Baseline b) marks sizes ≡ false → b .assessed ≡ true →
@@ -99,7 +100,7 @@ module _ (b : Baseline) where
   has-disease : fieldsPass (baseline b) ≡ true → b .assessed ≡ true → both (eqb (b .count) 0) (not (b .nontarget)) ≡ false
   unfolding withoutDisease
   has-disease passes assessed =
-      with-disease (entryOfBaseline b) (b .nodes) (b .sizes) (inside-limits (E.Baseline (entryOfBaseline b)) (b .nodes) (b .sizes) passes) assessed
+      with-disease (entryOfBaseline b) (b .nodes) (b .sizes) (limits-and-zeros (E.Baseline (entryOfBaseline b)) (b .nodes) (b .sizes) passes .0) assessed
 
   complete-overall : (vs : List Visit) → fieldsPass (baseline b) ≡ true → b .assessed ≡ true →
       overallAnswer (b .assessed) false (visitTarget (disease b) vs (completeVisit b)) (statusWord (completeVisit b .status)) ≡ CR

@@ -11,7 +11,7 @@ use Rattle.criteria.specs.Overall.{evaluable}
 use Rattle.endpoints.specs.Values.{none, on, isRecorded, orDay1, Pfs, EVENT, CENSORED, event, censored}
 use Rattle.endpoints.specs.StudyRecords.{Baseline, baseline, visit, therapy, death, fieldsPass}
 use Rattle.endpoints.specs.Lawful.{Past, latestDay, deathDay, died, lawfulBehind}
-use Rattle.endpoints.specs.Visits.{Judged, judge, judged, firstPD, progression}
+use Rattle.endpoints.specs.Visits.{Judged, judge, judged, firstPD, progression, countingClosed, counting}
 use Rattle.endpoints.specs.Pfs.{beforeEvent, lastEvaluable, earlyDeath, pfs}
 use Rattle.endpoints.proofs.Behind.{absent, from-day-1, Unchanged}
 use Rattle.endpoints.proofs.Missing.{missing-progression, missing-evaluable}
@@ -29,6 +29,18 @@ judged-until b d (baseline x ∷ p) h = judged-until b d p (omega arith)
 judged-until b d (visit t v ∷ p) h = (omega arith, judged-until b d p (omega arith))
 judged-until b d (therapy t ∷ p) h = judged-until b d p (omega arith)
 judged-until b d (death t ∷ p) h = judged-until b d p (omega arith)
+
+pub counting-until : (b : Baseline) (d : ℕ) (p : Past) → latestDay p ≤ d → Until d (counting b p)
+unfolding judge
+counting-until b d [] h = tt
+counting-until b d (baseline x ∷ p) h = counting-until b d p (omega arith)
+counting-until b d (visit t v ∷ p) h = go (countingClosed b p) (counting-until b d p (omega arith))
+  where
+    go : (x : Bool) → Until d (counting b p) → Until d (pick x (counting b p) (judge b p t v ∷ counting b p))
+    go true u = u
+    go false u = (omega arith, u)
+counting-until b d (therapy t ∷ p) h = counting-until b d p (omega arith)
+counting-until b d (death t ∷ p) h = counting-until b d p (omega arith)
 
 evaluable-until : (d : ℕ) (js : List Judged) → 1 ≤ d → Until d js → orDay1 (lastEvaluable (beforeEvent js)) ≤ d
 evaluable-until d [] one u = one

@@ -26,7 +26,8 @@ use Rattle.held.specs.declared.EventDays.{EventDays}
 use Rattle.held.specs.declared.CountingVisits.{CountingVisits}
 use Rattle.held.specs.declared.Subject.{Subject}
 use Rattle.held.specs.Visits.{firstOf, farAfter, eventAfter, bestFrom, betterOf, countedAfter}
-use Rattle.held.proofs.Ordered.{UpTo, Falling}
+use Rattle.endpoints.proofs.PfsChanges.{Until}
+use Rattle.held.proofs.Ordered.{Falling}
 
 -- a day as it is held
 abbrev pub at : ℕ → StudyDay
@@ -77,7 +78,7 @@ abbrev AtMost : Day → ℕ → Type 0
 AtMost none d = Unit {0}
 AtMost (on s) d = s ≤ d
 
-first-at-most : (d : ℕ) (js : List Judged) → UpTo d js → AtMost (firstResponse js) d
+first-at-most : (d : ℕ) (js : List Judged) → Until d js → AtMost (firstResponse js) d
 first-at-most d [] u = tt
 first-at-most d (j ∷ js) u = go (firstResponse js) (isResponse (j .answer)) (first-at-most d js (u .1))
   where
@@ -86,7 +87,7 @@ first-at-most d (j ∷ js) u = go (firstResponse js) (isResponse (j .answer)) (f
     go none false h = tt
     go (on s) r h = h
 
-start-at-most : (d : ℕ) (js : List Judged) → UpTo d js → AtMost (crStart js) d
+start-at-most : (d : ℕ) (js : List Judged) → Until d js → AtMost (crStart js) d
 start-at-most d [] u = tt
 start-at-most d (j ∷ js) u = go (crStart js) (isCR (j .answer)) (mayStandBetween (j .answer)) (start-at-most d js (u .1))
   where

@@ -5,9 +5,10 @@ use mathlib.Core.Bool.{Bool, true, false}
 use Prim.Native.Nat.{ℕ, _+_, _≤_, _<_}
 use lib.Dec.{leb}
 use borrow.Author.Tests.{le-leb, lt-leb}
-use Rattle.laws.specs.Choice.{both, pick}
-use Rattle.dates.specs.Calendar.{dateExists}
+use Rattle.laws.specs.Choice.{pick}
+use Rattle.dates.specs.Calendar.{lastDayNumber, dateExists}
 use Rattle.dates.specs.declared.StudyDay.{StudyDay}
+use Rattle.records.specs.Refusals.{mostTargets}
 use Rattle.criteria.specs.declared.Overall.{Overall}
 use Rattle.criteria.specs.declared.Overall.the-variants as O
 use Rattle.criteria.specs.Words.{Word, overallWord}
@@ -16,12 +17,12 @@ use Rattle.endpoints.specs.declared.MaybeDay.the-variants as M
 use Rattle.endpoints.specs.declared.BestResponse.{BestResponse}
 use Rattle.endpoints.specs.declared.BestResponse.the-variants as B
 use Rattle.endpoints.specs.Values.{isRecorded, dayValue, bestWord}
-use Rattle.endpoints.specs.Best.{isCR, isResponse, mayStandBetween, bestOf}
+use Rattle.endpoints.specs.Best.{isCR, isResponse, mayStandBetween, confirmDays, stableFrom, bestOf}
 use Rattle.held.specs.declared.EventDays.{EventDays}
 use Rattle.held.specs.declared.CountingVisits.{CountingVisits}
 use Rattle.held.specs.declared.Enrolment.{Enrolment}
 use Rattle.held.specs.declared.FollowUp.{FollowUp}
-use Rattle.held.specs.Range.{dayInRange, maybeInRange, eventInRange, countedInRange, enrolmentInRange, followUpInRange}
+use Rattle.held.specs.Range.{firstDay, largestSum, dayInRange, maybeInRange, eventInRange, countedInRange, enrolmentInRange, followUpInRange}
 use Rattle.held.specs.Visits.{firstOf, farAfter, evaluableOn, eventAfter, bestFrom, betterOf, shownBy, countedAfter}
 
 -- ---- days that may be absent
@@ -33,16 +34,16 @@ module _ (m : MaybeDay) (d : StudyDay) where
   pub first-recorded : (e : StudyDay) → m ≡ M.On e → m ≡ firstOf m d
   first-recorded e q = rw q
 
-  pub far-recorded : (e : StudyDay) → m ≡ M.On e → leb (e .0 + 28) (d .0) ≡ farAfter m (d .0)
+  pub far-recorded : (e : StudyDay) → m ≡ M.On e → leb (e .0 + confirmDays) (d .0) ≡ farAfter m (d .0)
   far-recorded e q = rw q
 
 -- ---- what 12 judges
 
-pub day-zero : (d : ℕ) → d < 1 → leb 1 d ≡ dayInRange d
-day-zero d h = rw (lt-leb 1 d h)
+pub day-zero : (d : ℕ) → d < firstDay → leb firstDay d ≡ dayInRange d
+day-zero d h = rw (lt-leb firstDay d h)
 
-pub day-from-one : (d : ℕ) → 1 ≤ d → leb d 40177 ≡ dayInRange d
-day-from-one d h = rw (le-leb 1 d h)
+pub day-from-one : (d : ℕ) → firstDay ≤ d → leb d lastDayNumber ≡ dayInRange d
+day-from-one d h = rw (le-leb firstDay d h)
 
 pub recorded-in-range : (m : MaybeDay) (e : StudyDay) (x : Bool) → m ≡ M.On e → x ≡ dayInRange (e .0) → x ≡ maybeInRange m
 recorded-in-range m e x q h = h ∙ rw q
@@ -63,36 +64,36 @@ module _ (e : Enrolment) (a : Bool) (p : a ≡ dateExists (e .randomisation)) wh
   unfolding enrolmentInRange
   without-date h = h ∙ rw (← p, h)
 
-  pub many-targets : a ≡ true → 5 < e .baseline .count → leb (e .baseline .count) 5 ≡ enrolmentInRange e
+  pub many-targets : a ≡ true → mostTargets < e .baseline .count → leb (e .baseline .count) mostTargets ≡ enrolmentInRange e
   unfolding enrolmentInRange
-  many-targets h k = rw (← p, h, lt-leb (e .baseline .count) 5 k)
+  many-targets h k = rw (← p, h, lt-leb (e .baseline .count) mostTargets k)
 
-  pub by-sum : a ≡ true → e .baseline .count ≤ 5 → leb (e .baseline .sum) 2500 ≡ enrolmentInRange e
+  pub by-sum : a ≡ true → e .baseline .count ≤ mostTargets → leb (e .baseline .sum) largestSum ≡ enrolmentInRange e
   unfolding enrolmentInRange
-  by-sum h k = rw (← p, h, le-leb (e .baseline .count) 5 k)
+  by-sum h k = rw (← p, h, le-leb (e .baseline .count) mostTargets k)
 
-pub large-nadir : (f : FollowUp) → 2500 < f .earlier .nadir → leb (f .earlier .nadir) 2500 ≡ followUpInRange f
+pub large-nadir : (f : FollowUp) → largestSum < f .earlier .nadir → leb (f .earlier .nadir) largestSum ≡ followUpInRange f
 unfolding followUpInRange
-large-nadir f h = rw (lt-leb (f .earlier .nadir) 2500 h)
+large-nadir f h = rw (lt-leb (f .earlier .nadir) largestSum h)
 
-module _ (f : FollowUp) (n : f .earlier .nadir ≤ 2500) (a : Bool) (p : a ≡ dayInRange (f .latest .0)) where
+module _ (f : FollowUp) (n : f .earlier .nadir ≤ largestSum) (a : Bool) (p : a ≡ dayInRange (f .latest .0)) where
   pub latest-outside : a ≡ false → a ≡ followUpInRange f
   unfolding followUpInRange
-  latest-outside h = h ∙ rw (le-leb (f .earlier .nadir) 2500 n, ← p, h)
+  latest-outside h = h ∙ rw (le-leb (f .earlier .nadir) largestSum n, ← p, h)
 
   module _ (h : a ≡ true) (b : Bool) (q : b ≡ maybeInRange (f .death)) where
     pub death-outside : b ≡ false → b ≡ followUpInRange f
     unfolding followUpInRange
-    death-outside k = k ∙ rw (le-leb (f .earlier .nadir) 2500 n, ← p, h, ← q, k)
+    death-outside k = k ∙ rw (le-leb (f .earlier .nadir) largestSum n, ← p, h, ← q, k)
 
     module _ (k : b ≡ true) (c : Bool) (r : c ≡ eventInRange (f .event)) where
       pub event-outside : c ≡ false → c ≡ followUpInRange f
       unfolding followUpInRange
-      event-outside l = l ∙ rw (le-leb (f .earlier .nadir) 2500 n, ← p, h, ← q, k, ← r, l)
+      event-outside l = l ∙ rw (le-leb (f .earlier .nadir) largestSum n, ← p, h, ← q, k, ← r, l)
 
       pub by-counted : (d : Bool) → c ≡ true → d ≡ countedInRange (f .counted) → d ≡ followUpInRange f
       unfolding followUpInRange
-      by-counted d l s = rw (le-leb (f .earlier .nadir) 2500 n, ← p, h, ← q, k, ← r, l) s
+      by-counted d l s = rw (le-leb (f .earlier .nadir) largestSum n, ← p, h, ← q, k, ← r, l) s
 
 -- ---- one visit more
 
@@ -137,14 +138,14 @@ best-there r w q = rw (← q) (go r)
 
 module _ (c : CountingVisits) (d : StudyDay) (answer : Overall) (r : BestResponse) where
   module _ (y : Bool) (yq : y ≡ farAfter (c .first) (d .0)) where
-    pub shown-cr : (x : Bool) → answer ≡ O.CR → x ≡ farAfter (c .start) (d .0) → bestWord r ≡ bestOf x y (leb 36 (d .0)) false →
+    pub shown-cr : (x : Bool) → answer ≡ O.CR → x ≡ farAfter (c .start) (d .0) → bestWord r ≡ bestOf x y (leb stableFrom (d .0)) false →
         r ≡ bestFrom (shownBy c d (overallWord answer))
     shown-cr x q xq h = best-there r (shownBy c d (overallWord answer)) (h ∙ rw (q, xq, yq))
 
-    pub shown-pr : answer ≡ O.PR → bestWord r ≡ bestOf false y (leb 36 (d .0)) false → r ≡ bestFrom (shownBy c d (overallWord answer))
+    pub shown-pr : answer ≡ O.PR → bestWord r ≡ bestOf false y (leb stableFrom (d .0)) false → r ≡ bestFrom (shownBy c d (overallWord answer))
     shown-pr q h = best-there r (shownBy c d (overallWord answer)) (h ∙ rw (q, yq))
 
-  pub shown-sd : answer ≡ O.SD → bestWord r ≡ bestOf false false (leb 36 (d .0)) false → r ≡ bestFrom (shownBy c d (overallWord answer))
+  pub shown-sd : answer ≡ O.SD → bestWord r ≡ bestOf false false (leb stableFrom (d .0)) false → r ≡ bestFrom (shownBy c d (overallWord answer))
   shown-sd q h = best-there r (shownBy c d (overallWord answer)) (h ∙ rw q)
 
 module _ (m r : MaybeDay) (d : StudyDay) (answer : Overall) (v : r ≡ firstOf m d) where

@@ -25,7 +25,7 @@ use Rattle.criteria.specs.Words.{Word, CR, PR, SD, PD, NE, targetWord, statusWo
 use Rattle.criteria.specs.Sums.{measuredSum, allMeasured}
 use Rattle.criteria.specs.Targets.{allGone, grown, shrunk, targetAnswer}
 use Rattle.criteria.specs.Overall.{grid, rowOf, columnOf, isPD, overallAnswer}
-use Rattle.criteria.specs.Change.{Tenths, signed, roundedChange, changeValues, changeBetween, changeOf}
+use Rattle.criteria.specs.Change.{signed, roundedChange, changeValues, changeBetween, changeOf}
 use Rattle.endpoints.specs.Values.{isRecorded, dayValue}
 use Rattle.endpoints.specs.Adding.{afterOwn}
 use Rattle.endpoints.specs.Lines.{VisitLine}

@@ -1,7 +1,7 @@
 -- Adding and reading follow the list of the records: on what is held after a list, adding gives what the longer list holds, or refuses as the list
 -- does, and the outcome read is the paper's outcome of the list.
 -- Assumes nothing.
-use mathlib.Core.Path.{_≡_, refl, ap}
+use mathlib.Core.Path.{_≡_, ap}
 use mathlib.Core.Bool.{true, false}
 use mathlib.Core.List.{[], _∷_}
 use lib.Dec.{eqb}

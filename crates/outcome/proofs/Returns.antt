@@ -27,7 +27,7 @@ module _ (assessed progressed dead : Bool) (latest : StudyDay) where
   unfolding pfsSettledBy
   assessed-settled q = rw q
 
-  pub missing-settled : assessed ≡ false → (dead || leb 93 (latest .0)) ≡ pfsSettledBy assessed progressed dead (latest .0)
+  pub missing-settled : assessed ≡ false → (dead || leb settledFrom (latest .0)) ≡ pfsSettledBy assessed progressed dead (latest .0)
   unfolding pfsSettledBy settledFrom earlyDeath
   missing-settled q = rw q
 

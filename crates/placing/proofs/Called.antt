@@ -2,12 +2,12 @@
 -- Assumes nothing.
 use mathlib.Core.Path.{_≡_, refl, sym, _∙_, ap}
 use mathlib.Core.Bool.{Bool, true, false, not}
-use mathlib.Core.List.{List, []}
+use mathlib.Core.List.{List}
 use Prim.Native.Nat.{ℕ, _+_, _-_}
 use native.Mathlib.Omega.{arith}
 use lib.Dec.{leb, eqb}
-use borrow.Author.Tests.{eq-eqb, eqb-true, not-true, not-false}
-use Rattle.laws.specs.Choice.{both, either, pick}
+use borrow.Author.Tests.{eqb-true, not-true, not-false}
+use Rattle.laws.specs.Choice.{both, pick}
 use Rattle.laws.proofs.Tests.{both-true}
 use Rattle.packing.specs.Layout.{AreBytes}
 use Rattle.dates.specs.declared.Date.{Date}
@@ -16,17 +16,14 @@ use Rattle.dates.specs.declared.StudyDayAnswer.{StudyDayAnswer}
 use Rattle.dates.specs.declared.StudyDayAnswer.the-variants as T
 use Rattle.dates.specs.Calendar.{dateExists, dayNumber}
 use Rattle.dates.specs.Answers.{Counted, counted, refused, studyDayValues, studyDayOf}
-use Rattle.records.specs.declared.Entry.{Entry}
 use Rattle.records.specs.declared.Entry.the-variants as E
-use Rattle.records.specs.declared.VisitEntry.{VisitEntry}
 use Rattle.records.specs.declared.Record.{Record}
 use Rattle.records.specs.declared.CheckAnswer.{CheckAnswer}
 use Rattle.records.specs.Form.{dateOf}
-use Rattle.records.specs.Refusals.{checkNumber, outsideLimits, notZero, refusalOfFields, ChecksVisit, refusalOfRead, refusalOf}
+use Rattle.records.specs.Refusals.{checkNumber, refusalOfFields, ChecksVisit, refusalOfRead, refusalOf}
 use Rattle.codec.specs.declared.VisitFields.{VisitFields}
 use Rattle.codec.specs.Reading.{rawVisit, refusalOfRaw, refusalOfBytes, recordOfBytes, visitFieldsOf, ReadsVisit}
 use Rattle.codec.proofs.VisitsFound.{found-date, is-visit}
-use Rattle.held.specs.declared.Enrolment.{Enrolment}
 use Rattle.held.specs.declared.Subject.{Subject}
 use Rattle.held.specs.Range.{enrolmentInRange, followUpInRange, inRange}
 use Rattle.placing.specs.declared.AddAnswer.{AddAnswer}

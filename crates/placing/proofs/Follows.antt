@@ -14,7 +14,7 @@ use Rattle.records.specs.Form.{dateOf}
 use Rattle.criteria.specs.Inputs.{Visit}
 use Rattle.criteria.proofs.Laws.{nadir-laws}
 use Rattle.endpoints.specs.Values.{Day, on, isRecorded, _orElse_}
-use Rattle.endpoints.specs.StudyRecords.{Baseline, baseline, disease, studyDay, entryOnStudyDay}
+use Rattle.endpoints.specs.StudyRecords.{Baseline, disease, studyDay, entryOnStudyDay}
 use Rattle.endpoints.specs.Lawful.{Past, deathDay, fits, lawfulBehind}
 use Rattle.endpoints.specs.Visits.{visitsOf, therapyRecorded, Judged, judge, judged, progression, countingClosed, counting}
 use Rattle.endpoints.specs.Lines.{lineOf, linesOf}
@@ -71,7 +71,7 @@ module _ (randomisation : Date) (b : Baseline) (p : Past) where
       let earlier = sym (nadir-laws .oneMore (disease b) (visitsOf p) visited) in
       let latest = ap at (sym (latest-is-last b p r l)) in
       let event = event-follows j (judged b p) in
-      let counted = counted-unless-closed _ (countingClosed b p) j closed (counting-falls b p (next b p r l .before) .1) in
+      let counted = counted-unless-closed _ (countingClosed b p) j closed (counting-falls b p (next b p r l .before)) in
       λ i.
       record {
         enrolment = held .enrolment;

@@ -35,8 +35,8 @@ use Rattle.placing.specs.declared.AddAnswer.the-variants as A
 use Rattle.placing.specs.declared.Dated.{Dated}
 use Rattle.placing.specs.declared.Step.{Step}
 use Rattle.placing.specs.declared.VisitResponse.{VisitResponse}
-use Rattle.placing.specs.Added.{answerOn, answerAdded, visitAdded, therapyAdded, deathAdded, entryAdded}
-use Rattle.placing.specs.Lines.{responseValues, addResponses, linesOn}
+use Rattle.placing.specs.Added.{answerOn, answerAdded, visitAdded, therapyAdded, deathAdded}
+use Rattle.placing.specs.Lines.{responseValues, addResponses}
 use Rattle.placing.specs.Refusals.{addNumber, refusalBy, refusalOn, firstRefusal}
 use Rattle.placing.specs.Stepping.{StepsBy, Steps, StepsLater}
 

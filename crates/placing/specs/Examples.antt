@@ -6,7 +6,7 @@ use mathlib.Core.Bool.{true, false}
 use mathlib.Core.List.{List, [], _∷_, map}
 use Rattle.dates.specs.Laws.{ymd}
 use Rattle.records.specs.Examples.{visitDated, therapyDated, deathDated}
-use Rattle.codec.specs.Examples.{eleven, printedBytes, printedVisitBytes, therapyBytes}
+use Rattle.codec.specs.Examples.{eleven, printedBytes, printedVisitBytes}
 use Rattle.records.specs.declared.Record.{Record}
 use Rattle.records.specs.declared.Status.the-variants as S
 use Rattle.criteria.specs.Words.{CR, PR, PD, NE, NA, NN}

@@ -14,7 +14,6 @@ use Rattle.records.specs.declared.Entry.the-variants.{Visit}
 use Rattle.records.specs.declared.VisitEntry.{VisitEntry}
 use Rattle.records.specs.declared.Record.{Record}
 use Rattle.records.specs.declared.CheckAnswer.{CheckAnswer}
-use Rattle.records.specs.declared.CheckAnswer.the-variants as C
 
 -- 4, then 5
 abbrev firstOfFields : Bool → Bool → ℕ

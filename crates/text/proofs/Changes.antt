@@ -12,14 +12,14 @@ use borrow.Author.Tests.{ltb-true, ltb-false, leb-false, eqb-false, lt-ltb, not-
 use Rattle.laws.specs.Choice.{both, either, pick}
 use Rattle.laws.proofs.Tests.{never, both-true, either-false}
 use Rattle.laws.proofs.Some.{some-none}
-use Rattle.records.specs.declared.Entry.{Entry}
 use Rattle.records.specs.declared.Entry.the-variants as E
 use Rattle.records.specs.Refusals.{mostTargets, largestSize, leastSize, wrongSize, largeMeasured, targetAt, withoutDisease, outsideLimits, notZero}
 use Rattle.criteria.specs.Inputs.{Visit}
 use Rattle.criteria.specs.Sums.{sumWhere, measuredSum, baselineSum, allMeasured}
 use Rattle.criteria.specs.Change.{Tenths, none, signed, nearest, roundedChange, changeBetween, changeOf}
 use Rattle.criteria.specs.Visits.{visitChange}
-use Rattle.endpoints.specs.StudyRecords.{Baseline, baseline, visit, disease, entryOfBaseline, entryOfVisit, entryPasses, fieldsPass}
+use Rattle.endpoints.proofs.CompleteVisit.{limits-and-zeros}
+use Rattle.endpoints.specs.StudyRecords.{Baseline, baseline, visit, disease, entryOfBaseline, entryOfVisit, fieldsPass}
 use Rattle.endpoints.specs.Lawful.{measuredBeyond, fitsBy, fits}
 use Rattle.text.specs.Text.{tenthsText, changeText}
 use Rattle.text.proofs.Texts.{tenths-length}
@@ -64,15 +64,6 @@ none-short : ChangeShort none
 none-short = record { tenths = omega arith; text = omega arith }
 
 -- ---- from a baseline, with a visit that fits it
-
--- neither 4 nor 5 meets fields that pass
-limits-and-zeros : (e : Entry) (marks : List Bool) (sizes : List ℕ) → entryPasses e marks sizes ≡ true →
-    (outsideLimits e marks sizes ≡ false) × (notZero e marks sizes ≡ false)
-unfolding entryPasses
-limits-and-zeros e marks sizes passes =
-    let five = both (eqb (length marks) mostTargets) (eqb (length sizes) mostTargets) in
-    let met = either (outsideLimits e marks sizes) (notZero e marks sizes) in
-    either-false (outsideLimits e marks sizes) (notZero e marks sizes) (not-true met (both-true five (not met) passes .1))
 
 -- a size within the count of a baseline is at least 10
 least-ten : (count i : ℕ) (node : Bool) (size : ℕ) → i < count → wrongSize count i node size ≡ false → 10 ≤ size

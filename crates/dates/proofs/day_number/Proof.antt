@@ -8,7 +8,7 @@ use lib.Dec.{ltb}
 use borrow.Author.Needs.{needs}
 use borrow.Author.Tests.{not-true, not-false}
 use Rattle.laws.specs.Choice.{both, pick}
-use Rattle.dates.specs.Calendar.{leapYear, dateExists, daysOfYears, daysOfMonths, dayNumber}
+use Rattle.dates.specs.Calendar.{firstYear, lastYear, leapYear, dateExists, daysOfYears, daysOfMonths, dayNumber}
 use Rattle.dates.specs.Answers.{counted, refused, dayNumberOf}
 use Rattle.dates.specs.declared.Date.{Date}
 use Rattle.dates.proofs.Days.{exists, leap-day}
@@ -21,19 +21,19 @@ no-date d b e t = rw (← e, not-true b t)
 
 -- a date that passed the test
 module _ (d : Date) (b : Bool) (e : b ≡ dateExists d) (t : not b ≡ false) where
-  year-in-range : (1990 ≤ d .year) × (d .year ≤ 2099)
-  year-in-range = let v = exists d (sym e ∙ not-false b t) in (v .firstYear, v .lastYear)
+  year-in-range : (firstYear ≤ d .year) × (d .year ≤ lastYear)
+  year-in-range = let v = exists d (sym e ∙ not-false b t) in (v .notBefore, v .notAfter)
 
   month-in-range : (1 ≤ d .month) × (d .month ≤ 12)
   month-in-range = let v = exists d (sym e ∙ not-false b t) in (v .firstMonth, v .lastMonth)
 
   number : (years months : ℕ) →
-      (years ≡ daysOfYears (d .year - 1990) + pick (both (ltb 2 (d .month)) (leapYear (d .year))) 1 0) × (years ≤ 39813) →
+      (years ≡ daysOfYears (d .year - firstYear) + pick (both (ltb 2 (d .month)) (leapYear (d .year))) 1 0) × (years ≤ 39813) →
       (months ≡ daysOfMonths false (d .month - 1)) × (months ≤ 334) → counted (years + months + d .day) ≡ dayNumberOf d
   unfolding dayNumberOf dayNumber
   number years months y m =
       let l = leap-day (leapYear (d .year)) (d .month) (month-in-range .1) in
-      let n : years + months ≡ daysOfYears (d .year - 1990) + daysOfMonths (leapYear (d .year)) (d .month - 1) = omega arith in
+      let n : years + months ≡ daysOfYears (d .year - firstYear) + daysOfMonths (leapYear (d .year)) (d .month - 1) = omega arith in
       rw (← e, not-false b t, n)
 
 pub day-number-spec : {M : Type 1} → statement M

@@ -7,16 +7,17 @@ use mir.Syntax.{w64}
 use mir.Val.{ofZ, toZ}
 use native.Mathlib.Omega.{arith}
 use lib.ListN.{length, drop}
+use Rattle.parts.specs.Parts.{mostBytes}
 use Rattle.input.proofs.Rest.{rest-kept, none-brought}
 use Rattle.input.proofs.read_into.Statement.{statement}
 use Rattle.input.proofs.read_into.Tie as tie
 
 abbrev Inv-loop : tie.InvT-loop
 Inv-loop bytes₀ chunk₀ count₀ bytes chunk count =
-    (length chunk ≡ 4096) × (length bytes ≡ 65536) × (count ≤ 44000 + 4096) × (drop count bytes ≡ drop count bytes₀)
+    (length chunk ≡ 4096) × (length bytes ≡ 65536) × (count ≤ mostBytes + 4096) × (drop count bytes ≡ drop count bytes₀)
 
 abbrev μ-loop : tie.MeasureT-loop
-μ-loop bytes₀ chunk₀ count₀ bytes chunk count = 44001 - count
+μ-loop bytes₀ chunk₀ count₀ bytes chunk count = mostBytes + 1 - count
 
 pub read-into-spec : {M : Type 1} → statement M
 read-into-spec =

@@ -1,5 +1,7 @@
 -- `outcome::settled::pfs_settled` meets its contract.
 -- Assumes nothing.
+use Rattle.endpoints.specs.Pfs.{earlyDeath}
+use Rattle.endpoints.specs.Settled.{settledFrom}
 use Rattle.outcome.proofs.Returns.{assessed-settled, missing-settled}
 use Rattle.outcome.proofs.settled.pfs_settled.Statement.{statement}
 use Rattle.outcome.proofs.settled.pfs_settled.Tie as tie
@@ -9,4 +11,4 @@ pfs-settled-spec =
     tie.close
     (tie.spec
     (λ c. search assessed-settled)
-    (λ c. search missing-settled))
+    (λ c. unfold settledFrom earlyDeath in search missing-settled))
