@@ -4,8 +4,8 @@ use mathlib.Core.Path.{refl}
 use Rattle.dates.specs.Calendar.{leapYear, daysInMonth, dateExists}
 use Rattle.records.specs.Refusals.{wrongSize, largeMeasured, setBeyond, sizedUnmeasured, withoutDisease, outsideLimits, notZero, refusalOfRead}
 use Rattle.codec.specs.Bytes.{recordNumber, bytesOf, bytesNumber}
-use Rattle.codec.specs.Reading.{statusFrom, baselineIn, visitIn, spareIn, rawIn, refusalOfNumber, refusalOfBytes, recordOfBytes}
-use Rattle.codec.specs.Examples.{BytesOfEachKind, ReadOfEachKind, FirstRefusals}
+use Rattle.codec.specs.Reading.{statusFrom, baselineIn, visitFieldsIn, visitFieldsOf, visitIn, spareIn, rawIn, refusalOfNumber, refusalOfBytes, recordOfBytes}
+use Rattle.codec.specs.Examples.{BytesOfEachKind, ReadOfEachKind, FirstRefusals, FieldsOfVisits, AfterReading}
 
 pub bytes-of-each-kind : BytesOfEachKind
 unfolding recordNumber bytesOf
@@ -56,3 +56,21 @@ first-refusals =
       lastOfDeath = refl;
       numbers = refl;
     }
+
+pub fields-of-visits : FieldsOfVisits
+unfolding bytesNumber statusFrom visitFieldsIn visitFieldsOf
+fields-of-visits =
+    record {
+      printed = refl;
+      noStatus = refl;
+      spareBit = refl;
+      therapy = refl;
+      baseline = refl;
+      noBytes = refl;
+      tenBytes = refl;
+      twelveBytes = refl;
+    }
+
+pub after-reading : AfterReading
+unfolding leapYear daysInMonth dateExists wrongSize largeMeasured setBeyond sizedUnmeasured withoutDisease outsideLimits notZero refusalOfRead bytesNumber statusFrom baselineIn visitIn spareIn rawIn refusalOfNumber refusalOfBytes
+after-reading = record { read = refl; noBytes = refl; spare = refl }

@@ -1,18 +1,20 @@
 -- Document 01, "Dates and records": the bytes of records of each kind, worked out by hand from the widths, and the records that are read from them; and
--- "Where a call stops", which of 1 to 5 comes first, their numbers, and the blank record beside a refusal. Proved in proofs/AtTheEdges.antt.
+-- "Where a call stops", which of 1 to 5 comes first, their numbers, the blank record beside a refusal, and what bytes have as a visit. Proved in proofs/AtTheEdges.antt.
 -- Assumes nothing.
 use mathlib.Core.Path.{_≡_}
-use mathlib.Core.Bool.{true, false}
+use mathlib.Core.Bool.{Bool, true, false}
 use mathlib.Core.List.{List, [], _∷_, map}
 use Prim.Native.Nat.{ℕ}
 use Rattle.dates.specs.Laws.{ymd}
+use Rattle.dates.specs.declared.Date.{Date}
 use Rattle.records.specs.Examples.{filled, baselineDated, visitDated, therapyDated, deathDated}
 use Rattle.records.specs.declared.Record.{Record}
 use Rattle.records.specs.declared.Status.{Status}
 use Rattle.records.specs.declared.Status.the-variants as S
 use Rattle.codec.specs.Bytes.{bytesOf}
-use Rattle.codec.specs.Reading.{readNumber, refusalOfBytes, recordOfBytes}
+use Rattle.codec.specs.Reading.{readNumber, refusalOfBytes, recordOfBytes, afterReading, visitFieldsOf}
 use Rattle.codec.specs.declared.ReadAnswer.the-variants as A
+use Rattle.codec.specs.declared.VisitFields.{VisitFields}
 
 -- 11 bytes, the first of them as given
 abbrev pub eleven : List ℕ → List ℕ
@@ -120,3 +122,34 @@ pub record FirstRefusals : Type 0 where
   pub lastOfDeath : refusalOfBytes (0x8F ∷ 0xC8 ∷ 0x54 ∷ 0 ∷ 0 ∷ 0 ∷ 0 ∷ 0 ∷ 0 ∷ 0 ∷ 0x01 ∷ []) ≡ 5
   -- 1 not 11 bytes; 2 kind not 1 to 4; 3 to 5
   pub numbers : map readNumber (A.Done ∷ A.NotElevenBytes ∷ A.NoSuchKind ∷ A.NoSuchDate ∷ A.OutsideLimits ∷ A.NotZero ∷ []) ≡ 0 ∷ 1 ∷ 2 ∷ 3 ∷ 4 ∷ 5 ∷ []
+
+-- the fields of a visit, with or without a new lesion, a status that is none and a spare bit that is set
+abbrev pub fieldsOf : Bool → Date → Status → Bool → List Bool → List ℕ → Bool → Bool → VisitFields
+fieldsOf isvisit d status new measured sizes badstatus spare =
+    record {
+      isvisit = isvisit;
+      entry = record { date = d; status = status; newlesion = new };
+      measured = filled false 5 measured;
+      sizes = filled 0 5 sizes;
+      badstatus = badstatus;
+      spare = spare;
+    }
+
+pub record FieldsOfVisits : Type 0 where
+  pub printed : visitFieldsOf printedVisitBytes ≡ fieldsOf true (ymd 2020 2 12) S.NN false (true ∷ true ∷ []) (24 ∷ 12 ∷ []) false false
+  -- a new lesion with status 7, which is none; the last spare bit
+  pub noStatus : visitFieldsOf (eleven (0x4F ∷ 0xC8 ∷ 0x4C ∷ 0xF0 ∷ [])) ≡ fieldsOf true (ymd 2020 2 12) S.NA true [] [] true false
+  pub spareBit : visitFieldsOf (0x4F ∷ 0xC8 ∷ 0x4C ∷ 0x10 ∷ 0 ∷ 0 ∷ 0 ∷ 0 ∷ 0 ∷ 0 ∷ 0x01 ∷ []) ≡ fieldsOf true (ymd 2020 2 12) S.NA true [] [] false true
+  -- the date of another kind: of a therapy, and of a baseline
+  pub therapy : visitFieldsOf therapyBytes ≡ fieldsOf false (ymd 2020 2 20) S.NA false [] [] false false
+  pub baseline : visitFieldsOf missingBytes ≡ fieldsOf false (ymd 2020 1 1) S.NA false [] [] false false
+  -- all zero beside no bytes, beside ten, and beside the printed visit with a byte more
+  pub noBytes : visitFieldsOf [] ≡ fieldsOf false (ymd 0 0 0) S.NA false [] [] false false
+  pub tenBytes : visitFieldsOf (filled 255 10 []) ≡ fieldsOf false (ymd 0 0 0) S.NA false [] [] false false
+  pub twelveBytes : visitFieldsOf (filled 0 12 (0x4F ∷ 0xC8 ∷ 0x4C ∷ 0x48 ∷ 0x31 ∷ 0x03 ∷ [])) ≡ fieldsOf false (ymd 0 0 0) S.NA false [] [] false false
+
+-- the refusals of bytes before another number
+pub record AfterReading : Type 0 where
+  pub read : afterReading printedBytes 7 ≡ 7
+  pub noBytes : afterReading [] 7 ≡ 1
+  pub spare : afterReading (eleven (0x6F ∷ 0xC8 ∷ 0x54 ∷ 0x80 ∷ [])) 7 ≡ 5

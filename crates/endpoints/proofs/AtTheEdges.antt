@@ -114,4 +114,14 @@ first-refusals =
 
 pub replied-of-visits : RepliedOfVisits
 unfolding refusalOfAdding refusalBehind refusalOfRead dateExists daysInMonth leapYear daysOfYears daysOfMonths dayNumber studyDayOf measuredBeyond fitsBy fits wrongSize largeMeasured setBeyond sizedUnmeasured withoutDisease outsideLimits notZero lineOf measuredSum baselineSum allMeasured allGone grown shrunk targetAnswer nadirOf overallAnswer changeBetween changeOf
-replied-of-visits = record { visit = refl; second = refl; therapy = refl; death = refl; again = refl; misfit = refl }
+replied-of-visits =
+    record {
+      visit = refl;
+      afterTherapy = refl;
+      afterProgression = refl;
+      second = refl;
+      therapy = refl;
+      death = refl;
+      again = refl;
+      misfit = refl;
+    }

@@ -3,7 +3,7 @@
 -- Assumes nothing.
 use mathlib.Core.Path.{_≡_}
 use mathlib.Core.Bool.{Bool, true, false}
-use mathlib.Core.List.{List, [], _∷_, map, reverse}
+use mathlib.Core.List.{List, [], _∷_, map}
 use Prim.Native.Nat.{ℕ}
 use Rattle.records.specs.declared.Status.the-variants as S
 use Rattle.records.specs.Examples.{filled}
@@ -12,7 +12,7 @@ use Rattle.criteria.specs.Change.{signed}
 use Rattle.endpoints.specs.Values.{none, on, EVENT, CENSORED, event, censored, noDuration, forDays, dayValue, wordOfStatus, pfsValues, bestWord, durationValues}
 use Rattle.endpoints.specs.StudyRecords.{Baseline, StudyRecord, baseline, visit, therapy, death, fieldsPass, allPass}
 use Rattle.endpoints.specs.Lawful.{Past}
-use Rattle.endpoints.specs.Lines.{visitLines}
+use Rattle.endpoints.specs.Lines.{linesInOrder}
 use Rattle.endpoints.specs.Examples.{withTargets, oneTarget, withNode, noTargets, missing, visitOn, measuring, unmeasured, Said, is, pfsIs, bestIs, durationIs, pfsOfList, bestOfList, durationOfList, pfsSettledOfList, bestSettledOfList, durationSettledOfList, Example, example}
 use Rattle.endpoints.specs.declared.MaybeDay.the-variants as M
 use Rattle.endpoints.specs.declared.PfsStatus.the-variants as E
@@ -42,13 +42,13 @@ printed = example withNode (visit43 ∷ visit85 ∷ visit127 ∷ []) (PR ∷ PR 
 
 -- its V lines in the order recorded; a therapy and a death have none
 pub record PrintedLines : Type 0 where
-  pub inOrder : visitLines withNode (reverse (visit43 ∷ therapy 50 ∷ visit85 ∷ visit127 ∷ death 130 ∷ []))
+  pub inOrder : linesInOrder (baseline withNode ∷ visit43 ∷ therapy 50 ∷ visit85 ∷ visit127 ∷ death 130 ∷ [])
       ≡ record { day = 43; target = PR; nontarget = NN; overall = PR; change = signed true 400 }
       ∷ record { day = 85; target = CR; nontarget = NN; overall = PR; change = signed true 850 }
       ∷ record { day = 127; target = PD; nontarget = NN; overall = PD; change = signed true 750 }
       ∷ []
   -- a visit after the progression has its line too
-  pub afterProgression : visitLines oneTarget (reverse (measuring 43 90 ∷ measuring 85 200 ∷ measuring 127 0 ∷ []))
+  pub afterProgression : linesInOrder (baseline oneTarget ∷ measuring 43 90 ∷ measuring 85 200 ∷ measuring 127 0 ∷ [])
       ≡ record { day = 43; target = SD; nontarget = NA; overall = SD; change = signed true 100 }
       ∷ record { day = 85; target = PD; nontarget = NA; overall = PD; change = signed false 1000 }
       ∷ record { day = 127; target = CR; nontarget = NA; overall = CR; change = signed true 1000 }

@@ -62,7 +62,7 @@ counted-refusal d randomisation e = rw e (go (dateExists d) (leb (dayNumber rand
 
 module _ (counted : StudyDayAnswer) (v : VisitFields) (x : Bool) (xq : x ≡ not (eqb (studyDayValues counted .refusal) 3)) where
   abbrev own : ℕ
-  own = pick (eqb (studyDayValues counted .refusal) 3) 3 (refusalOfFields (E.Visit (v .entry)) (v .measured) (v .sizes) (v .badstatus) (v .spare))
+  own = refusalOfFields (eqb (studyDayValues counted .refusal) 3) (E.Visit (v .entry)) (v .measured) (v .sizes) (v .badstatus) (v .spare)
 
   pub own-no-date : not x ≡ true → 3 ≡ own
   own-no-date h = let q = not-false (eqb (studyDayValues counted .refusal) 3) (sym xq ∙ not-true x h) in rw q
@@ -72,7 +72,7 @@ module _ (counted : StudyDayAnswer) (v : VisitFields) (x : Bool) (xq : x ≡ not
   own-by-fields a c h w q = let n = not-true (eqb (studyDayValues counted .refusal) 3) (sym xq ∙ not-false x h) in q ∙ w (v .entry) ∙ rw n
 
 -- 3, then 4 and 5
-by-date : (v : VisitFields) → refusalOfRaw (rawVisit v) ≡ pick (not (dateExists (v .entry .date))) 3 (refusalOfFields (E.Visit (v .entry)) (v .measured) (v .sizes) (v .badstatus) (v .spare))
+by-date : (v : VisitFields) → refusalOfRaw (rawVisit v) ≡ refusalOfFields (not (dateExists (v .entry .date))) (E.Visit (v .entry)) (v .measured) (v .sizes) (v .badstatus) (v .spare)
 unfolding refusalOfRead
 by-date v = refl
 
@@ -90,7 +90,7 @@ module _ (randomisation : Date) (bytes : List ℕ) (v : VisitFields) (counted : 
   on-the-day e = held ∙ ap (heldDay randomisation) (date-read ∙ sym (found-date bytes (w .octets) e))
 
   pub visit-dated : (own : AddAnswer) → v .isvisit ≡ true →
-      addNumber own ≡ pick (eqb (studyDayValues counted .refusal) 3) 3 (refusalOfFields (E.Visit (v .entry)) (v .measured) (v .sizes) (v .badstatus) (v .spare)) →
+      addNumber own ≡ refusalOfFields (eqb (studyDayValues counted .refusal) 3) (E.Visit (v .entry)) (v .measured) (v .sizes) (v .badstatus) (v .spare) →
       (x .day ≡ day) × (x .own ≡ own) × (x .found ≡ rawVisit v .read) → DatedFrom randomisation bytes x
   visit-dated own h oq q =
       let there = is-visit bytes (ap (λ f. f .isvisit) (sym (w .fields)) ∙ h) in

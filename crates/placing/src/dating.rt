@@ -12,7 +12,6 @@ use records::Record;
 ghost use mathlib.Core.Path.{_≡_};
 ghost use mathlib.Core.Bool.{not};
 ghost use lib.Dec.{eqb};
-ghost use Rattle.laws.specs.Choice.{pick};
 ghost use Rattle.packing.specs.Layout.{AreBytes};
 ghost use Rattle.dates.specs.Answers.{studyDayValues};
 ghost use Rattle.records.specs.Refusals.{refusalOfFields};
@@ -44,7 +43,7 @@ fn exists(counted: StudyDayAnswer) -> bool
 
 // 3 by the date that was counted, then 4 and 5.
 fn own_of_visit(counted: StudyDayAnswer, v: VisitFields) -> AddAnswer
-    ensures { λ a. ⌜ addNumber a ≡ pick (eqb (studyDayValues counted .refusal) 3) 3 (refusalOfFields (E.Visit (v .entry)) (v .measured) (v .sizes) (v .badstatus) (v .spare)) ⌝ }
+    ensures { λ a. ⌜ addNumber a ≡ refusalOfFields (eqb (studyDayValues counted .refusal) 3) (E.Visit (v .entry)) (v .measured) (v .sizes) (v .badstatus) (v .spare) ⌝ }
 {
     let measured = v.measured;
     let sizes = v.sizes;

@@ -85,20 +85,18 @@ notZero (Death d) marks sizes = someTarget (setBeyond 0) marks sizes
 abbrev pub firstOwn : Bool → Bool → Bool → ℕ
 firstOwn noDate outside set = pick noDate 3 (pick outside 4 (pick set 5 0))
 
--- 4, then 5, with a status that is none (4) or a spare bit that is set (5) beside the fields
-abbrev pub refusalOfFields : Entry → List Bool → List ℕ → Bool → Bool → ℕ
-refusalOfFields e marks sizes badstatus spare =
-    firstOwn false (either badstatus (outsideLimits e marks sizes)) (either spare (notZero e marks sizes))
+-- of fields, where their date is none or not, with a status that is none (4) or a spare bit that is set (5) beside them
+abbrev pub refusalOfFields : Bool → Entry → List Bool → List ℕ → Bool → Bool → ℕ
+refusalOfFields noDate e marks sizes badstatus spare =
+    firstOwn noDate (either badstatus (outsideLimits e marks sizes)) (either spare (notZero e marks sizes))
 
--- what checking the fields of a visit promises, whatever its entry
+-- what checking the fields of a visit promises, whatever its entry: 4 and 5 alone
 abbrev pub ChecksVisit : List Bool → List ℕ → Bool → Bool → CheckAnswer → Type 0
-ChecksVisit measured sizes badstatus spare c = (v : VisitEntry) → checkNumber c ≡ refusalOfFields (Visit v) measured sizes badstatus spare
+ChecksVisit measured sizes badstatus spare c = (v : VisitEntry) → checkNumber c ≡ refusalOfFields false (Visit v) measured sizes badstatus spare
 
--- what was read as a record, with a status that is none (4) or a spare bit that is set (5) beside it
+-- of what was read as a record, and of what stands beside it
 unfoldable pub refusalOfRead : Record → Bool → Bool → ℕ
-refusalOfRead r badstatus spare =
-    firstOwn (not (dateExists (dateOf (r .entry)))) (either badstatus (outsideLimits (r .entry) (r .marks) (r .sizes)))
-    (either spare (notZero (r .entry) (r .marks) (r .sizes)))
+refusalOfRead r badstatus spare = refusalOfFields (not (dateExists (dateOf (r .entry)))) (r .entry) (r .marks) (r .sizes) badstatus spare
 
 -- a record value has neither
 abbrev pub refusalOf : Record → ℕ
