@@ -5,7 +5,7 @@ use Rattle.dates.specs.Calendar.{leapYear, daysInMonth, dateExists}
 use Rattle.records.specs.Refusals.{wrongSize, largeMeasured, setBeyond, sizedUnmeasured, withoutDisease, outsideLimits, notZero, refusalOfRead}
 use Rattle.codec.specs.Bytes.{recordNumber, bytesOf, bytesNumber}
 use Rattle.codec.specs.Reading.{statusFrom, baselineIn, visitFieldsIn, visitFieldsOf, visitIn, spareIn, rawIn, refusalOfNumber, refusalOfBytes, recordOfBytes}
-use Rattle.codec.specs.Examples.{BytesOfEachKind, ReadOfEachKind, FirstRefusals, FieldsOfVisits, AfterReading}
+use Rattle.codec.specs.Examples.{BytesOfEachKind, ReadOfEachKind, FirstRefusals, FieldsByTheirBits, FieldsOfVisits, AfterReading}
 
 pub bytes-of-each-kind : BytesOfEachKind
 unfolding recordNumber bytesOf
@@ -56,6 +56,10 @@ first-refusals =
       lastOfDeath = refl;
       numbers = refl;
     }
+
+pub fields-by-their-bits : FieldsByTheirBits
+unfolding bytesNumber
+fields-by-their-bits = record { head = refl; targets = refl; measured = refl; visit = refl }
 
 pub fields-of-visits : FieldsOfVisits
 unfolding bytesNumber statusFrom visitFieldsIn visitFieldsOf

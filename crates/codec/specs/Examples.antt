@@ -12,6 +12,7 @@ use Rattle.records.specs.declared.Record.{Record}
 use Rattle.records.specs.declared.Status.{Status}
 use Rattle.records.specs.declared.Status.the-variants as S
 use Rattle.codec.specs.Bytes.{bytesOf}
+use Rattle.codec.specs.Fields.{fieldAt, targetsAt}
 use Rattle.codec.specs.Reading.{readNumber, refusalOfBytes, recordOfBytes, afterReading, visitFieldsOf}
 use Rattle.codec.specs.declared.ReadAnswer.the-variants as A
 use Rattle.codec.specs.declared.VisitFields.{VisitFields}
@@ -122,6 +123,14 @@ pub record FirstRefusals : Type 0 where
   pub lastOfDeath : refusalOfBytes (0x8F ∷ 0xC8 ∷ 0x54 ∷ 0 ∷ 0 ∷ 0 ∷ 0 ∷ 0 ∷ 0 ∷ 0 ∷ 0x01 ∷ []) ≡ 5
   -- 1 not 11 bytes; 2 kind not 1 to 4; 3 to 5
   pub numbers : map readNumber (A.Done ∷ A.NotElevenBytes ∷ A.NoSuchKind ∷ A.NoSuchDate ∷ A.OutsideLimits ∷ A.NotZero ∷ []) ≡ 0 ∷ 1 ∷ 2 ∷ 3 ∷ 4 ∷ 5 ∷ []
+
+-- kind, year, month, day, assessed, non-target and count of a baseline, and its targets from bit 29 on; the targets of two visits, from bit 28 on
+pub record FieldsByTheirBits : Type 0 where
+  pub head : fieldAt fiveTargetsBytes 0 3 ∷ fieldAt fiveTargetsBytes 3 12 ∷ fieldAt fiveTargetsBytes 15 4 ∷ fieldAt fiveTargetsBytes 19 5 ∷ fieldAt fiveTargetsBytes 24 1 ∷ fieldAt fiveTargetsBytes 25 1 ∷ fieldAt fiveTargetsBytes 26 3 ∷ []
+      ≡ 1 ∷ 2020 ∷ 1 ∷ 1 ∷ 1 ∷ 1 ∷ 5 ∷ []
+  pub targets : targetsAt fiveTargetsBytes 29 ≡ 1 ∷ 21 ∷ 0 ∷ 32 ∷ 1 ∷ 43 ∷ 0 ∷ 54 ∷ 1 ∷ 65 ∷ []
+  pub measured : targetsAt fourMeasuredBytes 28 ≡ 1 ∷ 11 ∷ 1 ∷ 22 ∷ 0 ∷ 0 ∷ 1 ∷ 44 ∷ 1 ∷ 500 ∷ []
+  pub visit : targetsAt printedVisitBytes 28 ≡ 1 ∷ 24 ∷ 1 ∷ 12 ∷ 0 ∷ 0 ∷ 0 ∷ 0 ∷ 0 ∷ 0 ∷ []
 
 -- the fields of a visit, with or without a new lesion, a status that is none and a spare bit that is set
 abbrev pub fieldsOf : Bool → Date → Status → Bool → List Bool → List ℕ → Bool → Bool → VisitFields
