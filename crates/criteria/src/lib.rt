@@ -17,7 +17,7 @@ pub struct Earlier {
     pub nadir: u32,
 }
 
-// In the order of the grid's rows, so that a row is found without a look-up; PD, which has none, is last.
+// In the order of the grid's rows; PD, which has none, is last.
 pub enum Target {
     CR,
     PR,

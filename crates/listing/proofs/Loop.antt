@@ -27,7 +27,7 @@ use Rattle.outcome.specs.Laws.{TellsWithin}
 use Rattle.outcome.proofs.Within.{calls-in-range, reading-in-range}
 use Rattle.outcome.proofs.Runs.{readable}
 use Rattle.file.specs.declared.FileAnswer.{FileAnswer}
-use Rattle.parts.specs.Parts.{mostBytes, badLength, partsOf}
+use Rattle.parts.specs.Parts.{mostRecords, mostBytes, badLength, partsOf}
 use Rattle.file.specs.File.{refused, accepted, startsLate, verdictOf, fileValues, Judges}
 use Rattle.file.specs.Ending.{verdictHeld, Ends}
 use Rattle.file.proofs.Verdicts.{apart, accepted-same}
@@ -108,7 +108,7 @@ module _ (l page₀ page : List ℕ) (s : Subject) (at k : ℕ) (w : Printing l 
       }
 
 -- behind the last record
-module _ (l page₀ page : List ℕ) (s : Subject) (at k : ℕ) (w : Printing l page₀ page s at k) (h : length l / recordLength ≤ k) (b : k ≤ 4000) (m : at ≤ mostLines)
+module _ (l page₀ page : List ℕ) (s : Subject) (at k : ℕ) (w : Printing l page₀ page s at k) (h : length l / recordLength ≤ k) (b : k ≤ mostRecords) (m : at ≤ mostLines)
     (a : FileAnswer) (v : Ends s (k - 1) a) where
   judged : Judges l a
   judged = ended l s k (w .standing) h a v

@@ -3,15 +3,17 @@
 use mathlib.Core.Path.{_≡_}
 use mathlib.Core.Bool.{Bool, false, not}
 use mathlib.Core.List.{List, [], _∷_, _++_}
-use Prim.Native.Nat.{ℕ, zero, suc, _/_, _%_}
+use Prim.Native.Nat.{ℕ, zero, suc, _*_, _/_, _%_}
 use lib.Dec.{ltb, eqb}
 use lib.ListN.{length, take, drop}
 use Rattle.laws.specs.Choice.{either}
 use Rattle.codec.specs.Bytes.{recordLength}
 
--- 4,000 records
+abbrev pub mostRecords : ℕ
+mostRecords = 4000
+
 abbrev pub mostBytes : ℕ
-mostBytes = 44000
+mostBytes = mostRecords * recordLength
 
 -- 13: length 0, no multiple of 11, or over 44,000
 unfoldable pub badLength : ℕ → Bool

@@ -3,8 +3,9 @@
 ghost use mathlib.Core.Path.{_≡_};
 ghost use Rattle.parts.specs.Parts.{badLength};
 
-// 4,000 records.
-pub const MOST_BYTES: usize = 44000;
+const MOST_RECORDS: usize = 4000;
+
+pub const MOST_BYTES: usize = MOST_RECORDS * codec::RECORD_LENGTH;
 
 // Refusal 13.
 pub fn bad_length(n: usize) -> bool

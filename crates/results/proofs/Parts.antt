@@ -51,13 +51,11 @@ module _ (d v : StudyDay) (e : MaybeDay) where
   with-evaluable r x q h = h ∙ rw q
 
   module _ (n : ℕ) (q : e ≡ M.Absent) (f : n ≡ d .0 - 1) where
-    pub early : n ≤ 91 → pfsValues (record { status = E.Event; day = d }) ≡ pfsOf none (on (d .0)) (v .0) (dayValue e)
-    unfolding earlyDeath
-    early h = rw (q, ← f, le-leb n 91 h)
+    pub early : n ≤ earlyDeath → pfsValues (record { status = E.Event; day = d }) ≡ pfsOf none (on (d .0)) (v .0) (dayValue e)
+    early h = rw (q, ← f, le-leb n earlyDeath h)
 
-    pub not-early : 91 < n → pfsValues (record { status = E.Censored; day = record { 0 = 1 } }) ≡ pfsOf none (on (d .0)) (v .0) (dayValue e)
-    unfolding earlyDeath
-    not-early h = rw (q, ← f, lt-leb n 91 h)
+    pub not-early : earlyDeath < n → pfsValues (record { status = E.Censored; day = record { 0 = 1 } }) ≡ pfsOf none (on (d .0)) (v .0) (dayValue e)
+    not-early h = rw (q, ← f, lt-leb n earlyDeath h)
 
 -- by progression, by death, or by neither
 module _ (g t : MaybeDay) (v : StudyDay) (e : MaybeDay) (r : PfsResult) where

@@ -31,7 +31,7 @@ use Rattle.outcome.proofs.Within.{calls-in-range}
 use Rattle.outcome.proofs.Runs.{opens, readable}
 use Rattle.outcome.proofs.Answers.{some-addition}
 use Rattle.outcome.proofs.Demand.{first, base, on-day, past, past-one-more, Held, grown, reading}
-use Rattle.parts.specs.Parts.{badLength, parts, partsOf}
+use Rattle.parts.specs.Parts.{mostRecords, badLength, parts, partsOf}
 use Rattle.file.specs.File.{refusalOfPart, refused, accepted, responseStartsLate, verdictFrom, verdictOf}
 use Rattle.file.proofs.Follows.{none-read, opened-taken}
 use Rattle.parts.proofs.Cut.{fair-length, length-parts}
@@ -47,7 +47,7 @@ abbrev listingFrom : List Record → ℕ → List (List ℕ) → List ℕ
 listingFrom rs k ps = listingText (verdictFrom rs k ps) (onStudyDays (rs ++ map recordOfBytes ps))
 
 -- a part's number and index
-refused-short : (rs : List Record) (k : ℕ) (part : List ℕ) → k ≤ 4000 → length (refusalText (refusalOfPart rs part) k) ≤ 12
+refused-short : (rs : List Record) (k : ℕ) (part : List ℕ) → k ≤ mostRecords → length (refusalText (refusalOfPart rs part) k) ≤ 12
 refused-short rs k part h = refusal-length (refusalOfPart rs part) k (omega (arith, part-small rs part)) (omega arith)
 
 module _ (x : BaselineEntry) (marks : List Bool) (sizes : List ℕ) (passes : fieldsPass (baseline (base x marks sizes)) ≡ true) where
@@ -90,7 +90,7 @@ module _ (x : BaselineEntry) (marks : List Bool) (sizes : List ℕ) (passes : fi
           length-map later (on-day x marks sizes),
         )
 
-    ended-short : (k : ℕ) → k ≤ 4000 → length (listingFrom (whole later) k []) ≤ 24 * length later + 47
+    ended-short : (k : ℕ) → k ≤ mostRecords → length (listingFrom (whole later) k []) ≤ 24 * length later + 47
     ended-short k l = rw (append-nil later) (go (responseStartsLate b (behind later)))
       where
         go : (late : Bool) →
@@ -119,7 +119,7 @@ module _ (x : BaselineEntry) (marks : List Bool) (sizes : List ℕ) (passes : fi
             pass = ap allPass (past-one-more x marks sizes later r) ∙ rw passed (h .pass);
           }
 
-  later-short : (later : List Record) (k : ℕ) (ps : List (List ℕ)) (s : Subject) → Known later s → k + length ps ≤ 4000 →
+  later-short : (later : List Record) (k : ℕ) (ps : List (List ℕ)) (s : Subject) → Known later s → k + length ps ≤ mostRecords →
       length (listingFrom (whole later) k ps) ≤ 24 * (length later + length ps) + 47
   later-short later k [] s h l = omega (arith, ended-short later s h k (omega arith))
   later-short later k (part ∷ ps) s h l =

@@ -1,6 +1,7 @@
 -- `results::pfs::pfs_of_death` meets its contract.
 -- Assumes nothing.
 use borrow.Author.Needs.{needs}
+use Rattle.endpoints.specs.Pfs.{earlyDeath}
 use Rattle.results.proofs.Parts.{with-evaluable, early, not-early}
 use Rattle.results.proofs.pfs.pfs_of_death.Statement.{statement}
 use Rattle.results.proofs.pfs.pfs_of_death.Tie as tie
@@ -13,6 +14,6 @@ pfs-of-death-spec =
     (λ c κs. search needs)
     (λ c. search needs)
     (λ c κs. search needs)
-    (λ c. search early)
+    (λ c. unfold earlyDeath in search early)
     (λ c. search with-evaluable)
-    (λ c. search not-early))
+    (λ c. unfold earlyDeath in search not-early))
