@@ -3,13 +3,14 @@
 use mathlib.Core.Path.{refl}
 use Rattle.criteria.specs.Sums.{measuredSum, baselineSum, allMeasured}
 use Rattle.criteria.specs.Targets.{allGone, grown, shrunk, targetAnswer}
-use Rattle.criteria.specs.Nadir.{nadirOf, afterVisit}
-use Rattle.criteria.specs.Overall.{overallAnswer}
+use Rattle.criteria.specs.Nadir.{afterVisit}
+use Rattle.criteria.specs.Overall.{overallBy}
 use Rattle.criteria.specs.Change.{changeBetween, changeOf}
+use Rattle.criteria.specs.Visits.{overallAnswer}
 use Rattle.criteria.specs.Examples.{Edges, OrdersAndPlaces, GridRows, OverallAlone, Nadirs, WrongReadings, Printed, Changes, WordsOfCases}
 
 pub edges : Edges
-unfolding measuredSum baselineSum allMeasured allGone grown shrunk targetAnswer nadirOf
+unfolding measuredSum baselineSum allMeasured allGone grown shrunk targetAnswer afterVisit
 edges =
     record {
       sum70 = refl;
@@ -24,7 +25,7 @@ edges =
     }
 
 pub orders-and-places : OrdersAndPlaces
-unfolding measuredSum baselineSum allMeasured allGone grown shrunk targetAnswer nadirOf
+unfolding measuredSum baselineSum allMeasured allGone grown shrunk targetAnswer afterVisit
 orders-and-places =
     record {
       noTargets = refl;
@@ -41,15 +42,15 @@ orders-and-places =
     }
 
 pub grid-rows : GridRows
-unfolding overallAnswer
+unfolding overallBy
 grid-rows = record { overCR = refl; overNA = refl; overPR = refl; overSD = refl; overNE = refl }
 
 pub overall-alone : OverallAlone
-unfolding measuredSum baselineSum allMeasured allGone grown shrunk targetAnswer nadirOf overallAnswer
+unfolding measuredSum baselineSum allMeasured allGone grown shrunk targetAnswer afterVisit overallBy overallAnswer
 overall-alone = record { newLesion = refl; nontargetPD = refl; withoutNontarget = refl; missing = refl; missingNewLesion = refl }
 
 pub nadirs : Nadirs
-unfolding measuredSum baselineSum allMeasured allGone grown shrunk targetAnswer nadirOf afterVisit
+unfolding measuredSum baselineSum allMeasured allGone grown shrunk targetAnswer afterVisit
 nadirs =
     record {
       leastOfAll = refl;
@@ -61,11 +62,11 @@ nadirs =
     }
 
 pub wrong-readings : WrongReadings
-unfolding measuredSum baselineSum allMeasured allGone grown shrunk targetAnswer nadirOf overallAnswer
+unfolding measuredSum baselineSum allMeasured allGone grown shrunk targetAnswer afterVisit overallBy overallAnswer
 wrong-readings = record { grownFromNadir = refl; progressionFirst = refl; incompleteSum = refl; oneGone = refl }
 
 pub printed-visits : Printed
-unfolding measuredSum baselineSum allMeasured allGone grown shrunk targetAnswer nadirOf overallAnswer changeBetween changeOf
+unfolding measuredSum baselineSum allMeasured allGone grown shrunk targetAnswer afterVisit overallBy overallAnswer changeBetween changeOf
 printed-visits =
     record {
       target43 = refl;

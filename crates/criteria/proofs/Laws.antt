@@ -2,7 +2,7 @@
 -- Assumes nothing.
 use mathlib.Core.Path.{_≡_, refl, _∙_, ap}
 use mathlib.Core.Bool.{Bool, true, false}
-use mathlib.Core.List.{List, [], _∷_}
+use mathlib.Core.List.{List, [], _∷_, reverseAux, reverse}
 use Prim.Native.Nat.{ℕ, _+_, _*_, _≤_, _<_, min}
 use native.Mathlib.Nat.{div-add-mod, mod-lt}
 use native.Mathlib.Omega.{arith}
@@ -13,38 +13,38 @@ use Rattle.criteria.specs.Words.{Word, PD, NE, statusWord}
 use Rattle.criteria.specs.Sums.{measuredSum, allMeasured}
 use Rattle.criteria.specs.Inputs.{Visit}
 use Rattle.criteria.specs.Nadir.{completeSums, leastOf, nadirOf, leftBy, afterVisit}
-use Rattle.criteria.specs.Overall.{isPD, overallAnswer}
+use Rattle.criteria.specs.Overall.{isPD, overallBy}
 use Rattle.criteria.specs.Change.{none, nearest, changeOf}
-use Rattle.criteria.specs.Visits.{visitTarget, visitOverall, visitChange}
-use Rattle.criteria.specs.Laws.{OverallLaws, leftAfter, NadirLaws, ChangeLaws}
+use Rattle.criteria.specs.Visits.{overallAnswer, visitTarget, visitOverall}
+use Rattle.criteria.specs.Laws.{OverallLaws, NadirLaws, ChangeLaws}
 use Rattle.criteria.specs.declared.BaselineDisease.{BaselineDisease}
-use Rattle.criteria.specs.declared.Earlier.{Earlier}
 
 -- the overall answer of a visit, by what its parts are known to be
 overall-is : (b : BaselineDisease) (vs : List Visit) (v : Visit) (a n : Bool) (t s : Word) → b .assessed ≡ a → v .newLesion ≡ n →
-    visitTarget b vs v ≡ t → statusWord (v .status) ≡ s → visitOverall b vs v ≡ overallAnswer a n t s
-overall-is b vs v a n t s e f g h =
-    ap (λ (x : Bool). overallAnswer x (v .newLesion) (visitTarget b vs v) (statusWord (v .status))) e
-    ∙ ap (λ (x : Bool). overallAnswer a x (visitTarget b vs v) (statusWord (v .status))) f
-    ∙ ap (λ (x : Word). overallAnswer a n x (statusWord (v .status))) g
-    ∙ ap (λ (x : Word). overallAnswer a n t x) h
-
-not-assessed : (n : Bool) (t s : Word) → overallAnswer false n t s ≡ NE
+    visitTarget b vs v ≡ t → statusWord (v .status) ≡ s → visitOverall b vs v ≡ overallBy a n t s
 unfolding overallAnswer
+overall-is b vs v a n t s e f g h =
+    ap (λ (x : Bool). overallBy x (v .newLesion) (visitTarget b vs v) (statusWord (v .status))) e
+    ∙ ap (λ (x : Bool). overallBy a x (visitTarget b vs v) (statusWord (v .status))) f
+    ∙ ap (λ (x : Word). overallBy a n x (statusWord (v .status))) g
+    ∙ ap (λ (x : Word). overallBy a n t x) h
+
+not-assessed : (n : Bool) (t s : Word) → overallBy false n t s ≡ NE
+unfolding overallBy
 not-assessed true t s = refl
 not-assessed false t s = refl
 
-newly-seen : (t s : Word) → overallAnswer true true t s ≡ PD
-unfolding overallAnswer
+newly-seen : (t s : Word) → overallBy true true t s ≡ PD
+unfolding overallBy
 newly-seen t s = refl
 
-pd-target : (n : Bool) (s : Word) → overallAnswer true n PD s ≡ PD
-unfolding overallAnswer
+pd-target : (n : Bool) (s : Word) → overallBy true n PD s ≡ PD
+unfolding overallBy
 pd-target true s = refl
 pd-target false s = refl
 
-pd-nontarget : (n : Bool) (t : Word) → overallAnswer true n t PD ≡ PD
-unfolding overallAnswer
+pd-nontarget : (n : Bool) (t : Word) → overallBy true n t PD ≡ PD
+unfolding overallBy
 pd-nontarget true t = refl
 pd-nontarget false t = rw (either-with-true (isPD t))
 
@@ -64,19 +64,16 @@ module _ (b : BaselineDisease) (vs : List Visit) (v : Visit) where
 pub overall-laws : OverallLaws
 overall-laws = record { missing = missing; newLesion = new-lesion; targetPD = target-pd; nontargetPD = nontarget-pd }
 
-abbrev pub withNadir : ℕ → Earlier
-withNadir n = record { nadir = n }
-
--- one visit more, by whether every target was measured
-one-more : (b : BaselineDisease) (vs : List Visit) (v : Visit) →
-    leftBy b (v ∷ vs) ≡ afterVisit (b .count) (leftBy b vs) (v .measured) (v .sizes)
+-- one visit more by whether every target was measured
+nadir-left : (b : BaselineDisease) (vs : List Visit) → leftBy b vs .nadir ≡ nadirOf b vs
 unfolding nadirOf afterVisit
-one-more b vs v = go (allMeasured (b .count) (v .measured)) refl
+nadir-left b [] = refl
+nadir-left b (v ∷ vs) =
+    go (allMeasured (b .count) (v .measured)) (measuredSum (v .measured) (v .sizes)) (leftBy b vs .nadir) (completeSums (b .count) vs) (nadir-left b vs)
   where
-    go : (m : Bool) → allMeasured (b .count) (v .measured) ≡ m →
-        leftBy b (v ∷ vs) ≡ afterVisit (b .count) (leftBy b vs) (v .measured) (v .sizes)
-    go true q = rw q
-    go false q = rw q
+    go : (m : Bool) (s n : ℕ) (ss : List ℕ) → n ≡ leastOf (b .sum) ss → pick m (min s n) n ≡ leastOf (b .sum) (pick m (s ∷ ss) ss)
+    go true s n ss e = ap (min s) e
+    go false s n ss e = e
 
 least-moved : (s n : ℕ) (ms : List ℕ) → leastOf (min s n) ms ≡ min s (leastOf n ms)
 least-moved s n [] = refl
@@ -85,23 +82,24 @@ least-moved s n (m ∷ ms) =
     let w : min m (min s (leastOf n ms)) ≡ min s (min m (leastOf n ms)) = omega arith in
     rw h w
 
-folded-from : (count n : ℕ) (vs : List Visit) → leftAfter count (withNadir n) vs ≡ withNadir (leastOf n (completeSums count vs))
-unfolding afterVisit
-folded-from count n [] = refl
-folded-from count n (v ∷ vs) =
-    folded-from count (pick (allMeasured count (v .measured)) (min (measuredSum (v .measured) (v .sizes)) n) n) vs
-    ∙ go (allMeasured count (v .measured)) (measuredSum (v .measured) (v .sizes)) (completeSums count vs)
+-- the visits of a list put one by one before others, which is how `reverse` goes
+least-turned : (count n : ℕ) (vs ws : List Visit) →
+    leastOf n (completeSums count (reverseAux vs ws)) ≡ leastOf (leastOf n (completeSums count ws)) (completeSums count vs)
+least-turned count n [] ws = refl
+least-turned count n (v ∷ vs) ws =
+    least-turned count n vs (v ∷ ws)
+    ∙ go (allMeasured count (v .measured)) (measuredSum (v .measured) (v .sizes)) (completeSums count ws) (completeSums count vs)
   where
-    go : (m : Bool) (s : ℕ) (ss : List ℕ) → withNadir (leastOf (pick m (min s n) n) ss) ≡ withNadir (leastOf n (pick m (s ∷ ss) ss))
-    go true s ss = ap withNadir (least-moved s n ss)
-    go false s ss = refl
+    go : (m : Bool) (s : ℕ) (ms ss : List ℕ) → leastOf (leastOf n (pick m (s ∷ ms) ms)) ss ≡ leastOf (leastOf n ms) (pick m (s ∷ ss) ss)
+    go true s ms ss = least-moved s (leastOf n ms) ss
+    go false s ms ss = refl
 
-folded : (b : BaselineDisease) (vs : List Visit) → leftAfter (b .count) (leftBy b []) vs ≡ leftBy b vs
+any-order : (b : BaselineDisease) (vs : List Visit) → nadirOf b (reverse vs) ≡ nadirOf b vs
 unfolding nadirOf
-folded b vs = folded-from (b .count) (b .sum) vs
+any-order b vs = least-turned (b .count) (b .sum) vs []
 
 pub nadir-laws : NadirLaws
-nadir-laws = record { oneMore = one-more; folded = folded }
+nadir-laws = record { nadir = nadir-left; anyOrder = any-order }
 
 -- n / d to the nearest, by the quotient and the remainder of 2 × n + d by 2 × d
 rounded : (n d : ℕ) → 1 ≤ d → (2 * d * nearest n d ≤ 2 * n + d) × (2 * n < 2 * d * nearest n d + d)
@@ -111,11 +109,11 @@ rounded n d l =
     let r = mod-lt (2 * n + d) p in
     (omega arith, omega arith)
 
-no-targets : (b : BaselineDisease) (v : Visit) → b .count ≡ 0 → visitChange b v ≡ none
+no-targets : (b : BaselineDisease) (v : Visit) → b .count ≡ 0 → changeOf b v ≡ none
 unfolding changeOf
 no-targets b v e = rw e
 
-unmeasured : (b : BaselineDisease) (v : Visit) → allMeasured (b .count) (v .measured) ≡ false → visitChange b v ≡ none
+unmeasured : (b : BaselineDisease) (v : Visit) → allMeasured (b .count) (v .measured) ≡ false → changeOf b v ≡ none
 unfolding changeOf
 unmeasured b v e = rw (e, either-with-true (eqb (b .count) 0))
 

@@ -2,9 +2,9 @@
 -- Assumes nothing.
 use Prim.Native.Nat.{ℕ, _+_, _-_, _*_, _/_}
 use mathlib.Core.Bool.{Bool, true, false, not}
-use mathlib.Core.List.{List}
 use lib.Dec.{ltb, eqb}
 use Rattle.laws.specs.Choice.{both, either, pick}
+use Rattle.criteria.specs.Inputs.{Visit}
 use Rattle.criteria.specs.Sums.{measuredSum, allMeasured}
 use Rattle.criteria.specs.declared.BaselineDisease.{BaselineDisease}
 use Rattle.criteria.specs.declared.ChangeAnswer.{ChangeAnswer}
@@ -39,7 +39,7 @@ unfoldable pub changeBetween : ℕ → ℕ → Tenths
 changeBetween baseline sum = signed (both (ltb sum baseline) (ltb 0 (roundedChange baseline sum))) (roundedChange baseline sum)
 
 -- at a visit with targets, all measured; else none, and none where a baseline sum is 0, as no accepted baseline with targets has it
-unfoldable pub changeOf : BaselineDisease → List Bool → List ℕ → Tenths
-changeOf b measured sizes =
-    pick (either (eqb (b .count) 0) (either (not (allMeasured (b .count) measured)) (eqb (b .sum) 0))) none
-    (changeBetween (b .sum) (measuredSum measured sizes))
+unfoldable pub changeOf : BaselineDisease → Visit → Tenths
+changeOf b v =
+    pick (either (eqb (b .count) 0) (either (not (allMeasured (b .count) (v .measured))) (eqb (b .sum) 0))) none
+    (changeBetween (b .sum) (measuredSum (v .measured) (v .sizes)))

@@ -13,10 +13,11 @@ use Rattle.criteria.specs.Words.{Word, CR, PR, SD, PD, NE, NA, NN, targe
 use Rattle.criteria.specs.Inputs.{Visit, diseaseOf}
 use Rattle.criteria.specs.Sums.{measuredSum, baselineSum}
 use Rattle.criteria.specs.Nadir.{afterVisit}
-use Rattle.criteria.specs.Overall.{isPD, overallAnswer, evaluable}
-use Rattle.criteria.specs.Change.{none, signed, changeValues, changeBetween}
-use Rattle.criteria.specs.Visits.{visitTarget, visitOverall, visitChange}
+use Rattle.criteria.specs.Overall.{isPD, overallBy, evaluable}
+use Rattle.criteria.specs.Change.{none, signed, changeValues, changeBetween, changeOf}
+use Rattle.criteria.specs.Visits.{visitTarget, visitOverall}
 use Rattle.criteria.specs.declared.BaselineDisease.{BaselineDisease}
+use Rattle.criteria.specs.declared.Earlier.{Earlier}
 use Rattle.criteria.specs.declared.Target.the-variants as T
 use Rattle.criteria.specs.declared.Overall.the-variants as O
 use Rattle.criteria.specs.declared.ChangeAnswer.the-variants as C
@@ -75,7 +76,7 @@ pub record OrdersAndPlaces : Type 0 where
 
 -- a target row of the grid over the non-target answers CR, NN, NE and NA
 abbrev pub row : Word → List Word
-row target = map (λ (s : Status). overallAnswer true false target (statusWord s)) (S.CR ∷ S.NN ∷ S.NE ∷ S.NA ∷ [])
+row target = map (λ (s : Status). overallBy true false target (statusWord s)) (S.CR ∷ S.NN ∷ S.NE ∷ S.NA ∷ [])
 
 pub record GridRows : Type 0 where
   pub overCR : row CR ≡ CR ∷ PR ∷ PR ∷ CR ∷ []
@@ -99,6 +100,11 @@ pub record OverallAlone : Type 0 where
   pub missing : visitOverall (oneOf100 false false) [] (unchanged S.NA false) ≡ NE
   pub missingNewLesion : visitOverall (oneOf100 false false) [] (unchanged S.NA true) ≡ NE
 
+-- two targets and nadir 60, and what is left after a visit by which were measured and their sizes
+abbrev pub after60 : List Bool → List ℕ → Earlier
+after60 measured sizes =
+    afterVisit (baselineWith [] (60 ∷ 40 ∷ [])) (record { nadir = 60 }) (record { status = S.NN; newLesion = false; measured = measured; sizes = sizes })
+
 -- the least of the baseline sum and the sums of all earlier visits with every target measured: the earlier visits stand newest first
 pub record Nadirs : Type 0 where
   -- not the last sum, 55, but 50
@@ -108,9 +114,9 @@ pub record Nadirs : Type 0 where
   -- the baseline sum, 50, and not 58 of the visit
   pub baselineLeast : visitTarget (baselineWith [] (50 ∷ [])) (measuring (58 ∷ []) ∷ []) (measuring (60 ∷ [])) ≡ PD
   -- after one visit more: a lesser sum moves it; a larger one and one with a target unmeasured leave it
-  pub lesser : afterVisit 2 (record { nadir = 60 }) (true ∷ true ∷ []) (30 ∷ 20 ∷ []) ≡ record { nadir = 50 }
-  pub larger : afterVisit 2 (record { nadir = 60 }) (true ∷ true ∷ []) (40 ∷ 30 ∷ []) ≡ record { nadir = 60 }
-  pub incomplete : afterVisit 2 (record { nadir = 60 }) (true ∷ false ∷ []) (30 ∷ 0 ∷ []) ≡ record { nadir = 60 }
+  pub lesser : after60 (true ∷ true ∷ []) (30 ∷ 20 ∷ []) ≡ record { nadir = 50 }
+  pub larger : after60 (true ∷ true ∷ []) (40 ∷ 30 ∷ []) ≡ record { nadir = 60 }
+  pub incomplete : after60 (true ∷ false ∷ []) (30 ∷ 0 ∷ []) ≡ record { nadir = 60 }
 
 pub record WrongReadings : Type 0 where
   -- growth against baseline alone: the sum is half the baseline's and three times the nadir
@@ -138,19 +144,19 @@ day127 = measuring (0 ∷ 15 ∷ [])
 pub record Printed : Type 0 where
   pub target43 : visitTarget printed [] day43 ≡ PR
   pub overall43 : visitOverall printed [] day43 ≡ PR
-  pub change43 : visitChange printed day43 ≡ signed true 400
+  pub change43 : changeOf printed day43 ≡ signed true 400
   pub target85 : visitTarget printed (day43 ∷ []) day85 ≡ CR
   pub overall85 : visitOverall printed (day43 ∷ []) day85 ≡ PR
-  pub change85 : visitChange printed day85 ≡ signed true 850
+  pub change85 : changeOf printed day85 ≡ signed true 850
   pub target127 : visitTarget printed (day85 ∷ day43 ∷ []) day127 ≡ PD
   pub overall127 : visitOverall printed (day85 ∷ day43 ∷ []) day127 ≡ PD
-  pub change127 : visitChange printed day127 ≡ signed true 750
+  pub change127 : changeOf printed day127 ≡ signed true 750
 
 -- at a visit with targets, all measured, in tenths of a percent, signed, nearest, halves away from zero; else none
 pub record Changes : Type 0 where
-  pub oneTarget : visitChange (baselineWith [] (100 ∷ [])) (measuring (150 ∷ [])) ≡ signed false 500
-  pub noTargets : visitChange (baselineWith [] []) (measuring []) ≡ none
-  pub oneUnmeasured : visitChange (baselineWith [] (60 ∷ 40 ∷ [])) (measuring (60 ∷ [])) ≡ none
+  pub oneTarget : changeOf (baselineWith [] (100 ∷ [])) (measuring (150 ∷ [])) ≡ signed false 500
+  pub noTargets : changeOf (baselineWith [] []) (measuring []) ≡ none
+  pub oneUnmeasured : changeOf (baselineWith [] (60 ∷ 40 ∷ [])) (measuring (60 ∷ [])) ≡ none
   -- upwards and downwards: 50.0 % either way
   pub upwards : changeBetween 100 150 ≡ signed false 500
   pub downwards : changeBetween 100 50 ≡ signed true 500

@@ -1,13 +1,22 @@
--- Document 01, "Visit responses": the nadir, on the visits of one subject. A list has the earlier visits in any order: the least is the same.
+-- Document 01, "Visit responses": what earlier visits leave for judging the next one, and the nadir. Lists of visits have the newest first.
 -- Assumes nothing.
 use Prim.Native.Nat.{ℕ, min}
-use mathlib.Core.Bool.{Bool}
 use mathlib.Core.List.{List, [], _∷_}
 use Rattle.laws.specs.Choice.{pick}
 use Rattle.criteria.specs.Sums.{measuredSum, allMeasured}
 use Rattle.criteria.specs.Inputs.{Visit}
 use Rattle.criteria.specs.declared.BaselineDisease.{BaselineDisease}
 use Rattle.criteria.specs.declared.Earlier.{Earlier}
+
+-- what is left after one visit more: its sum, where every target was measured, and the nadir before it, whichever is less
+unfoldable pub afterVisit : BaselineDisease → Earlier → Visit → Earlier
+afterVisit b earlier v =
+    record { nadir = pick (allMeasured (b .count) (v .measured)) (min (measuredSum (v .measured) (v .sizes)) (earlier .nadir)) (earlier .nadir) }
+
+-- what earlier visits leave, from the baseline on, each visit after those before it; later therapy or progression takes no visit from the list
+abbrev pub leftBy : BaselineDisease → List Visit → Earlier
+leftBy b [] = record { nadir = b .sum }
+leftBy b (v ∷ earlier) = afterVisit b (leftBy b earlier) v
 
 -- the sums of the visits with every target measured
 abbrev pub completeSums : ℕ → List Visit → List ℕ
@@ -19,16 +28,7 @@ abbrev pub leastOf : ℕ → List ℕ → ℕ
 leastOf n [] = n
 leastOf n (m ∷ ms) = min m (leastOf n ms)
 
--- the least of the baseline sum and the sums of all earlier visits with every target measured, later therapy or progression notwithstanding:
--- neither takes a visit from the list
+-- nadir, a term of document 01: the least of the baseline sum and the sums of all earlier visits with every target measured. That it is what is left is a
+-- law (`NadirLaws`).
 unfoldable pub nadirOf : BaselineDisease → List Visit → ℕ
 nadirOf b earlier = leastOf (b .sum) (completeSums (b .count) earlier)
-
--- what earlier visits leave for judging the next one
-abbrev pub leftBy : BaselineDisease → List Visit → Earlier
-leftBy b earlier = record { nadir = nadirOf b earlier }
-
--- what is left after one visit more
-unfoldable pub afterVisit : ℕ → Earlier → List Bool → List ℕ → Earlier
-afterVisit count earlier measured sizes =
-    record { nadir = pick (allMeasured count measured) (min (measuredSum measured sizes) (earlier .nadir)) (earlier .nadir) }

@@ -55,9 +55,9 @@ isPD NE = false
 isPD NA = false
 isPD NN = false
 
--- baseline assessed, new lesion, target answer and non-target answer
-unfoldable pub overallAnswer : Bool → Bool → Word → Word → Word
-overallAnswer assessed newLesion target nontarget =
+-- the overall answer from whether the baseline was assessed, a new lesion, the target answer and the non-target answer
+unfoldable pub overallBy : Bool → Bool → Word → Word → Word
+overallBy assessed newLesion target nontarget =
     pick (not assessed) NE
     (pick (either newLesion (either (isPD target) (isPD nontarget))) PD
     (cell (rowOf target) (columnOf nontarget)))

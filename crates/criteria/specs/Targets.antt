@@ -8,6 +8,7 @@ use lib.ListN.{getD}
 use Rattle.laws.specs.Choice.{both, either, pick, all}
 use Rattle.records.specs.Refusals.{mostTargets}
 use Rattle.criteria.specs.Words.{Word, CR, PR, SD, PD, NE, NA}
+use Rattle.criteria.specs.Inputs.{Visit}
 use Rattle.criteria.specs.Sums.{measuredSum, allMeasured}
 use Rattle.criteria.specs.declared.BaselineDisease.{BaselineDisease}
 use Rattle.criteria.specs.declared.Earlier.{Earlier}
@@ -43,12 +44,12 @@ grown nadir sum = both (leb (nadir + grownBy) sum) (leb (grownToFifths * nadir) 
 unfoldable pub shrunk : ℕ → ℕ → Bool
 shrunk baseline sum = leb (10 * sum) (partialTenths * baseline)
 
--- the first that applies
-unfoldable pub targetAnswer : BaselineDisease → Earlier → List Bool → List ℕ → Word
-targetAnswer b earlier measured sizes =
+-- after what earlier visits leave, the first that applies
+unfoldable pub targetAnswer : BaselineDisease → Earlier → Visit → Word
+targetAnswer b earlier v =
     pick (eqb (b .count) 0) NA
-    (pick (both (allMeasured (b .count) measured) (allGone (b .count) (b .nodes) sizes)) CR
-    (pick (grown (earlier .nadir) (measuredSum measured sizes)) PD
-    (pick (not (allMeasured (b .count) measured)) NE
-    (pick (shrunk (b .sum) (measuredSum measured sizes)) PR
+    (pick (both (allMeasured (b .count) (v .measured)) (allGone (b .count) (b .nodes) (v .sizes))) CR
+    (pick (grown (earlier .nadir) (measuredSum (v .measured) (v .sizes))) PD
+    (pick (not (allMeasured (b .count) (v .measured))) NE
+    (pick (shrunk (b .sum) (measuredSum (v .measured) (v .sizes))) PR
     SD))))

@@ -6,12 +6,13 @@ use Rattle.dates.specs.Answers.{studyDayOf}
 use Rattle.records.specs.Refusals.{wrongSize, largeMeasured, setBeyond, sizedUnmeasured, withoutDisease, outsideLimits, notZero, refusalOfRead}
 use Rattle.criteria.specs.Sums.{measuredSum, baselineSum, allMeasured}
 use Rattle.criteria.specs.Targets.{allGone, grown, shrunk, targetAnswer}
-use Rattle.criteria.specs.Nadir.{nadirOf}
-use Rattle.criteria.specs.Overall.{overallAnswer}
+use Rattle.criteria.specs.Nadir.{afterVisit}
+use Rattle.criteria.specs.Overall.{overallBy}
+use Rattle.criteria.specs.Visits.{overallAnswer}
 use Rattle.criteria.specs.Change.{changeBetween, changeOf}
 use Rattle.endpoints.specs.StudyRecords.{entryPasses}
 use Rattle.endpoints.specs.Lawful.{measuredBeyond, fitsBy, fits}
-use Rattle.endpoints.specs.Visits.{judge}
+use Rattle.endpoints.specs.Course.{answerAt}
 use Rattle.endpoints.specs.Pfs.{gapLimit, earlyDeath, pfs}
 use Rattle.endpoints.specs.Best.{best, duration}
 use Rattle.endpoints.specs.Lines.{lineOf}
@@ -22,7 +23,7 @@ use Rattle.endpoints.specs.FurtherExamples.{WordsOfCases, further, Print
 use Rattle.endpoints.specs.AddingExamples.{Unlawful, FittingStatuses, OnStudyDays, FirstRefusals, RepliedOfVisits}
 
 pub examples-hold : Hold starred × Hold further
-unfolding starred further entryPasses wrongSize largeMeasured setBeyond sizedUnmeasured withoutDisease outsideLimits notZero measuredBeyond fitsBy fits measuredSum baselineSum allMeasured allGone grown shrunk targetAnswer nadirOf overallAnswer judge gapLimit earlyDeath pfs best duration settledFrom pfsSettledBy bestSettledBy durationSettledBy pfsSettled bestSettled durationSettled
+unfolding starred further entryPasses wrongSize largeMeasured setBeyond sizedUnmeasured withoutDisease outsideLimits notZero measuredBeyond fitsBy fits measuredSum baselineSum allMeasured allGone grown shrunk targetAnswer afterVisit overallBy overallAnswer answerAt gapLimit earlyDeath pfs best duration settledFrom pfsSettledBy bestSettledBy durationSettledBy pfsSettled bestSettled durationSettled
 examples-hold = (record { lists = refl; visits = refl; answers = refl }, record { lists = refl; visits = refl; answers = refl })
 
 pub words-of-cases : WordsOfCases
@@ -55,7 +56,7 @@ unfolding measuredBeyond fitsBy fits
 fitting-statuses = record { withLesions = refl; withoutLesions = refl }
 
 pub printed-lines : PrintedLines
-unfolding lineOf measuredSum baselineSum allMeasured allGone grown shrunk targetAnswer nadirOf overallAnswer changeBetween changeOf
+unfolding lineOf answerAt measuredSum baselineSum allMeasured allGone grown shrunk targetAnswer afterVisit overallBy overallAnswer changeBetween changeOf
 printed-lines = record { inOrder = refl; afterProgression = refl }
 
 pub fields-that-pass : FieldsThatPass
@@ -113,7 +114,7 @@ first-refusals =
     }
 
 pub replied-of-visits : RepliedOfVisits
-unfolding refusalOfAdding refusalBehind refusalOfRead dateExists daysInMonth leapYear daysOfYears daysOfMonths dayNumber studyDayOf measuredBeyond fitsBy fits wrongSize largeMeasured setBeyond sizedUnmeasured withoutDisease outsideLimits notZero lineOf measuredSum baselineSum allMeasured allGone grown shrunk targetAnswer nadirOf overallAnswer changeBetween changeOf
+unfolding refusalOfAdding refusalBehind refusalOfRead dateExists daysInMonth leapYear daysOfYears daysOfMonths dayNumber studyDayOf measuredBeyond fitsBy fits wrongSize largeMeasured setBeyond sizedUnmeasured withoutDisease outsideLimits notZero lineOf answerAt measuredSum baselineSum allMeasured allGone grown shrunk targetAnswer afterVisit overallBy overallAnswer changeBetween changeOf
 replied-of-visits =
     record {
       visit = refl;

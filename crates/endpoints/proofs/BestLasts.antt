@@ -1,4 +1,4 @@
--- Reasons for which best response and duration last: each further record of a lawful list keeps them, and a reason for it. The marks are not named
+-- Reasons for which best response and duration last: each further event of a lawful list keeps them, and a reason for it. The marks are not named
 -- here.
 -- Assumes nothing.
 use mathlib.Core.Path.{_≡_, refl, sym, ap, _∙_}
@@ -9,20 +9,20 @@ use Rattle.laws.specs.Choice.{both, either, pick}
 use Rattle.laws.proofs.Tests.{never, either-with-true}
 use Rattle.criteria.specs.Words.{Word, CR, NE}
 use Rattle.endpoints.specs.Values.{Day, none, on, isRecorded, _orElse_}
-use Rattle.endpoints.specs.StudyRecords.{Baseline, StudyRecord, baseline, visit, therapy, death}
-use Rattle.endpoints.specs.Lawful.{Past, died}
-use Rattle.endpoints.specs.Visits.{Judged, therapyRecorded, judge, firstPD, progression, countingClosed, counting}
+use Rattle.endpoints.specs.StudyRecords.{Baseline}
+use Rattle.endpoints.specs.Lawful.{Past}
+use Rattle.endpoints.specs.Course.{Judged, Occurrence, visited, therapyOn, deathOn, Course, course, deathIn, therapyIn, visitsIn, firstPD, progression, countingClosed, counting}
 use Rattle.endpoints.specs.Pfs.{pfs}
 use Rattle.endpoints.specs.Best.{isCR, isResponse, completeBefore, confirmedCR, confirmedResponse, stable, bestOf, best, firstResponse, durationOf, duration}
-use Rattle.endpoints.proofs.Behind.{recorded-keeps, Next, lasts-by, Unchanged}
-use Rattle.endpoints.proofs.Missing.{missing-answer}
+use Rattle.endpoints.proofs.Behind.{recorded-keeps, Follows, lasts-by, Unchanged}
+use Rattle.endpoints.proofs.Missing.{AllNE}
 use Rattle.endpoints.proofs.PfsLasts.{PfsOver, progressed, dead, late, pfs-keeps}
 
 -- when best response is CR, and when it is CR or PR
-pub words-of-best : (b : Baseline) (p : Past) →
-    (isCR (best b p) ≡ confirmedCR (counting b p)) × (isResponse (best b p) ≡ either (confirmedCR (counting b p)) (confirmedResponse (counting b p)))
+pub words-of-best : (c : Course) →
+    (isCR (best c) ≡ confirmedCR (counting c)) × (isResponse (best c) ≡ either (confirmedCR (counting c)) (confirmedResponse (counting c)))
 unfolding best
-words-of-best b p = go (confirmedCR (counting b p)) (confirmedResponse (counting b p)) (stable (counting b p)) (isRecorded (firstPD (counting b p)))
+words-of-best c = go (confirmedCR (counting c)) (confirmedResponse (counting c)) (stable (counting c)) (isRecorded (firstPD (counting c)))
   where
     go : (cr pr sd pd : Bool) → (isCR (bestOf cr pr sd pd) ≡ cr) × (isResponse (bestOf cr pr sd pd) ≡ either cr pr)
     go true pr sd pd = (refl, refl)
@@ -32,130 +32,121 @@ words-of-best b p = go (confirmedCR (counting b p)) (confirmedResponse (counting
     go false false false false = (refl, refl)
 
 -- counting visits: none is to come, or none that is to come is evaluable
-pub data CountingOver (b : Baseline) (p : Past) : Type 0 where
-  closed : countingClosed b p ≡ true → CountingOver b p
-  afterDeath : died p ≡ true → CountingOver b p
-  missing : b .assessed ≡ false → CountingOver b p
+pub data CountingOver (assessed : Bool) (c : Course) : Type 0 where
+  closed : countingClosed c ≡ true → CountingOver assessed c
+  afterDeath : isRecorded (deathIn c) ≡ true → CountingOver assessed c
+  missing : assessed ≡ false → CountingOver assessed c
 
 orElse-none : (x : Day) → (x orElse none) ≡ x
 orElse-none none = refl
 orElse-none (on d) = refl
 
-module _ (b : Baseline) (p : Past) where
-  counting-closed : (r : StudyRecord) → countingClosed b p ≡ true →
-      countingClosed b (r ∷ p) ≡ true
-  counting-closed (baseline x) e = e
-  counting-closed (visit d v) e = go (therapyRecorded p) (progression b p) _ e
+one-more-NE : (t : Bool) (j : Judged) → j .answer ≡ NE → (js : List Judged) →
+    (confirmedCR (pick t js (j ∷ js)) ≡ confirmedCR js)
+    × (confirmedResponse (pick t js (j ∷ js)) ≡ confirmedResponse js)
+    × (stable (pick t js (j ∷ js)) ≡ stable js)
+    × (firstPD (pick t js (j ∷ js)) ≡ firstPD js)
+    × (firstResponse (pick t js (j ∷ js)) ≡ firstResponse js)
+one-more-NE true j e js = (refl, refl, refl, refl, refl)
+one-more-NE false j e js = (rw e, rw e, rw e, rw (e, orElse-none (firstPD js)), rw (e, orElse-none (firstResponse js)))
+
+module _ (c : Course) where
+  counting-closed : (e : Occurrence) → countingClosed c ≡ true → countingClosed (e ∷ c) ≡ true
+  counting-closed (visited j) q = go (therapyIn c) (progression c) _ q
     where
       go : (t : Bool) (x y : Day) → either t (isRecorded x) ≡ true → either t (isRecorded (x orElse y)) ≡ true
-      go true x y e = refl
-      go false x y e = recorded-keeps x y e
-  counting-closed (therapy d) e = refl
-  counting-closed (death d) e = e
+      go true x y q = refl
+      go false x y q = recorded-keeps x y q
+  counting-closed (therapyOn d) q = refl
+  counting-closed (deathOn d) q = q
 
-  -- best response and the first response are those of the counting visits
-  abbrev Same : StudyRecord → Type 0
-  Same r = (best b (r ∷ p) ≡ best b p) × (firstResponse (counting b (r ∷ p)) ≡ firstResponse (counting b p))
+  module _ {assessed : Bool} where
+    -- best response and the first response are those of the counting visits
+    counting-same : (e : Occurrence) → Follows assessed c e → CountingOver assessed c →
+        (best (e ∷ c) ≡ best c) × (firstResponse (counting (e ∷ c)) ≡ firstResponse (counting c))
+    unfolding best
+    counting-same (visited j) f (closed q) = (rw q, rw q)
+    counting-same (visited j) f (afterDeath q) = absurd (never (sym q ∙ ap isRecorded (f .alive)))
+    counting-same (visited j) f (missing m) =
+        let s = one-more-NE (countingClosed c) j (f .unassessed m .0) (counting c) in
+        (rw (s .0, s .1, s .2, s .3), s .4)
+    counting-same (therapyOn d) f q = (refl, refl)
+    counting-same (deathOn d) f q = (refl, refl)
 
-  one-more-NE : (t : Bool) (j : Judged) → j .answer ≡ NE → (c : List Judged) →
-      (confirmedCR (pick t c (j ∷ c)) ≡ confirmedCR c)
-      × (confirmedResponse (pick t c (j ∷ c)) ≡ confirmedResponse c)
-      × (stable (pick t c (j ∷ c)) ≡ stable c)
-      × (firstPD (pick t c (j ∷ c)) ≡ firstPD c)
-      × (firstResponse (pick t c (j ∷ c)) ≡ firstResponse c)
-  one-more-NE true j e c = (refl, refl, refl, refl, refl)
-  one-more-NE false j e c = (rw e, rw e, rw e, rw (e, orElse-none (firstPD c)), rw (e, orElse-none (firstResponse c)))
-
-  counting-same : (r : StudyRecord) → Next b p r → CountingOver b p → Same r
-  unfolding best
-  counting-same (baseline x) n q = (refl, refl)
-  counting-same (visit d v) n (closed e) = (rw e, rw e)
-  counting-same (visit d v) n (afterDeath e) = absurd (never (sym e ∙ n .alive))
-  counting-same (visit d v) n (missing m) =
-      let s = one-more-NE (countingClosed b p) (judge b p d v) (missing-answer b p d v m) (counting b p) in
-      (rw (s .0, s .1, s .2, s .3), s .4)
-  counting-same (therapy d) n q = (refl, refl)
-  counting-same (death d) n q = (refl, refl)
-
-  counting-keeps : (r : StudyRecord) → Next b p r → CountingOver b p → CountingOver b (r ∷ p)
-  counting-keeps r n (closed e) = closed (counting-closed r e)
-  counting-keeps r n (afterDeath e) = absurd (never (sym e ∙ n .alive))
-  counting-keeps r n (missing m) = missing m
+    counting-keeps : (e : Occurrence) → Follows assessed c e → CountingOver assessed c → CountingOver assessed (e ∷ c)
+    counting-keeps e f (closed q) = closed (counting-closed e q)
+    counting-keeps e f (afterDeath q) = absurd (never (sym q ∙ ap isRecorded (f .alive)))
+    counting-keeps e f (missing m) = missing m
 
 -- with baseline missing no counting visit is a response
-missing-counting : (b : Baseline) (p : Past) → b .assessed ≡ false →
-    (confirmedCR (counting b p) ≡ false) × (confirmedResponse (counting b p) ≡ false)
-missing-counting b [] m = (refl, refl)
-missing-counting b (baseline x ∷ p) m = missing-counting b p m
-missing-counting b (visit d v ∷ p) m =
-    let s = one-more-NE b p (countingClosed b p) (judge b p d v) (missing-answer b p d v m) (counting b p) in
-    let before = missing-counting b p m in
+none-confirmed : (c : Course) → AllNE (visitsIn c) → (confirmedCR (counting c) ≡ false) × (confirmedResponse (counting c) ≡ false)
+none-confirmed [] u = (refl, refl)
+none-confirmed (visited j ∷ c) u =
+    let s = one-more-NE (countingClosed c) j (u .0) (counting c) in
+    let before = none-confirmed c (u .1) in
     (s .0 ∙ before .0, s .1 ∙ before .1)
-missing-counting b (therapy d ∷ p) m = missing-counting b p m
-missing-counting b (death d ∷ p) m = missing-counting b p m
+none-confirmed (therapyOn d ∷ c) u = none-confirmed c u
+none-confirmed (deathOn d ∷ c) u = none-confirmed c u
 
-pub missing-no-response : (b : Baseline) (p : Past) → b .assessed ≡ false → isResponse (best b p) ≡ false
-missing-no-response b p m =
-    let c = missing-counting b p m in
-    words-of-best b p .1 ∙ rw (c .0, c .1)
+pub no-response : (c : Course) → AllNE (visitsIn c) → isResponse (best c) ≡ false
+no-response c u = let n = none-confirmed c u in words-of-best c .1 ∙ rw (n .0, n .1)
 
 -- best response: that, or it is CR
-pub data BestOver (b : Baseline) (p : Past) : Type 0 where
-  counted : CountingOver b p → BestOver b p
-  complete : confirmedCR (counting b p) ≡ true → BestOver b p
+pub data BestOver (assessed : Bool) (c : Course) : Type 0 where
+  counted : CountingOver assessed c → BestOver assessed c
+  complete : confirmedCR (counting c) ≡ true → BestOver assessed c
 
 either-right : (x y : Bool) → y ≡ true → either x y ≡ true
 either-right x y e = rw e (either-with-true x)
 
-module _ (b : Baseline) (p : Past) where
-  confirmed-keeps : (r : StudyRecord) → confirmedCR (counting b p) ≡ true → confirmedCR (counting b (r ∷ p)) ≡ true
-  confirmed-keeps (baseline x) e = e
-  confirmed-keeps (visit d v) e = go (countingClosed b p) (judge b p d v)
+module _ (c : Course) where
+  confirmed-keeps : (e : Occurrence) → confirmedCR (counting c) ≡ true → confirmedCR (counting (e ∷ c)) ≡ true
+  confirmed-keeps (visited j) q = go (countingClosed c)
     where
-      go : (t : Bool) (j : Judged) → confirmedCR (pick t (counting b p) (j ∷ counting b p)) ≡ true
-      go true j = e
-      go false j = either-right (both (isCR (j .answer)) (completeBefore (j .day) (counting b p))) (confirmedCR (counting b p)) e
-  confirmed-keeps (therapy d) e = e
-  confirmed-keeps (death d) e = e
+      go : (t : Bool) → confirmedCR (pick t (counting c) (j ∷ counting c)) ≡ true
+      go true = q
+      go false = either-right (both (isCR (j .answer)) (completeBefore (j .day) (counting c))) (confirmedCR (counting c)) q
+  confirmed-keeps (therapyOn d) q = q
+  confirmed-keeps (deathOn d) q = q
 
-  pub confirmed-best : confirmedCR (counting b p) ≡ true → best b p ≡ CR
+  pub confirmed-best : confirmedCR (counting c) ≡ true → best c ≡ CR
   unfolding best
-  confirmed-best e = rw e
+  confirmed-best q = rw q
 
-best-keeps : (b : Baseline) (p : Past) (r : StudyRecord) → Next b p r → BestOver b p → BestOver b (r ∷ p) × (best b (r ∷ p) ≡ best b p)
-best-keeps b p r n (counted c) = (counted (counting-keeps b p r n c), counting-same b p r n c .0)
-best-keeps b p r n (complete e) =
-    let k = confirmed-keeps b p r e in
-    (complete k, confirmed-best b (r ∷ p) k ∙ sym (confirmed-best b p e))
+best-keeps : {assessed : Bool} (c : Course) (e : Occurrence) → Follows assessed c e → BestOver assessed c → BestOver assessed (e ∷ c) × (best (e ∷ c) ≡ best c)
+best-keeps c e f (counted q) = (counted (counting-keeps c e f q), counting-same c e f q .0)
+best-keeps c e f (complete q) =
+    let k = confirmed-keeps c e q in
+    (complete k, confirmed-best (e ∷ c) k ∙ sym (confirmed-best c q))
 
-pub best-lasts : (b : Baseline) (p : Past) → BestOver b p → Unchanged best b p
-best-lasts b p why = lasts-by best (BestOver b) b (best-keeps b) p why
+pub best-lasts : (b : Baseline) (p : Past) → BestOver (b .assessed) (course b p) → Unchanged best b p
+best-lasts b p why = lasts-by best (BestOver (b .assessed)) b best-keeps p why
 
 -- duration: PFS lasts, or there is none and no counting visit can make one
-pub data DurationOver (b : Baseline) (p : Past) : Type 0 where
-  ended : PfsOver b p → DurationOver b p
-  without : isResponse (best b p) ≡ false → CountingOver b p → DurationOver b p
+pub data DurationOver (assessed : Bool) (c : Course) : Type 0 where
+  ended : PfsOver assessed c → DurationOver assessed c
+  without : isResponse (best c) ≡ false → CountingOver assessed c → DurationOver assessed c
 
--- where PFS lasts no evaluable visit is to be counted
-pfs-counting : (b : Baseline) (p : Past) → PfsOver b p → CountingOver b p
-pfs-counting b p (progressed e) = closed (either-right (therapyRecorded p) (isRecorded (progression b p)) e)
-pfs-counting b p (dead e) = afterDeath e
-pfs-counting b p (late m h) = missing m
+module _ {assessed : Bool} (c : Course) where
+  -- where PFS lasts no evaluable visit is to be counted
+  pfs-counting : PfsOver assessed c → CountingOver assessed c
+  pfs-counting (progressed q) = closed (either-right (therapyIn c) (isRecorded (progression c)) q)
+  pfs-counting (dead q) = afterDeath q
+  pfs-counting (late m h) = missing m
 
-duration-keeps : (b : Baseline) (p : Past) (r : StudyRecord) → Next b p r → DurationOver b p →
-    DurationOver b (r ∷ p) × (duration b (r ∷ p) ≡ duration b p)
-unfolding duration
-duration-keeps b p r n (ended q) =
-    let k = pfs-keeps b p r n q in
-    let s = counting-same b p r n (pfs-counting b p q) in
-    (ended (k .0), rw (s .0, s .1, k .1))
-duration-keeps b p r n (without e c) =
-    let s = counting-same b p r n c in
-    (without (ap isResponse (s .0) ∙ e) (counting-keeps b p r n c), rw (s .0, s .1) (none-both (best b p) (firstResponse (counting b p)) e))
-  where
-    none-both : (w : Word) (f : Day) → isResponse w ≡ false → durationOf w f (pfs b (r ∷ p)) ≡ durationOf w f (pfs b p)
-    none-both w none e = refl
-    none-both w (on d) e = rw e
+  duration-keeps : (e : Occurrence) → Follows assessed c e → DurationOver assessed c → DurationOver assessed (e ∷ c) × (duration (e ∷ c) ≡ duration c)
+  unfolding duration
+  duration-keeps e f (ended q) =
+      let k = pfs-keeps c e f q in
+      let s = counting-same c e f (pfs-counting q) in
+      (ended (k .0), rw (s .0, s .1, k .1))
+  duration-keeps e f (without n q) =
+      let s = counting-same c e f q in
+      (without (ap isResponse (s .0) ∙ n) (counting-keeps c e f q), rw (s .0, s .1) (none-both (best c) (firstResponse (counting c)) n))
+    where
+      none-both : (a : Word) (x : Day) → isResponse a ≡ false → durationOf a x (pfs (e ∷ c)) ≡ durationOf a x (pfs c)
+      none-both a none n = refl
+      none-both a (on d) n = rw n
 
-pub duration-lasts : (b : Baseline) (p : Past) → DurationOver b p → Unchanged duration b p
-duration-lasts b p why = lasts-by duration (DurationOver b) b (duration-keeps b) p why
+pub duration-lasts : (b : Baseline) (p : Past) → DurationOver (b .assessed) (course b p) → Unchanged duration b p
+duration-lasts b p why = lasts-by duration (DurationOver (b .assessed)) b duration-keeps p why

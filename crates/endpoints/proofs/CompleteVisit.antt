@@ -19,11 +19,11 @@ use Rattle.criteria.specs.Words.{CR, NA, statusWord}
 use Rattle.criteria.specs.Inputs.{Visit}
 use Rattle.criteria.specs.Sums.{allMeasured}
 use Rattle.criteria.specs.Targets.{gone, allGone, targetAnswer}
-use Rattle.criteria.specs.Overall.{overallAnswer}
-use Rattle.criteria.specs.Visits.{visitTarget}
+use Rattle.criteria.specs.Overall.{overallBy}
+use Rattle.criteria.specs.Visits.{overallAnswer, visitTarget, visitOverall}
 use Rattle.endpoints.specs.StudyRecords.{Baseline, baseline, visit, disease, entryPasses, entryOfBaseline, fieldsPass}
 use Rattle.endpoints.specs.Lawful.{Past, latestDay, died, measuredBeyond, fitsBy, fits, lawfulBehind}
-use Rattle.endpoints.specs.Visits.{visitsOf, judge}
+use Rattle.endpoints.specs.Course.{visitsOf, answerAt}
 
 -- every target measured with size 0, non-target disease CR where there was some
 unfoldable pub completeVisit : Baseline → Visit
@@ -103,20 +103,19 @@ module _ (b : Baseline) where
       with-disease (entryOfBaseline b) (b .nodes) (b .sizes) (limits-and-zeros (E.Baseline (entryOfBaseline b)) (b .nodes) (b .sizes) passes .0) assessed
 
   complete-overall : (vs : List Visit) → fieldsPass (baseline b) ≡ true → b .assessed ≡ true →
-      overallAnswer (b .assessed) false (visitTarget (disease b) vs (completeVisit b)) (statusWord (completeVisit b .status)) ≡ CR
-  unfolding overallAnswer completeVisit
+      visitOverall (disease b) vs (completeVisit b) ≡ CR
+  unfolding overallBy overallAnswer completeVisit
   complete-overall vs passes assessed = rw (complete-target vs, assessed) (go (eqb (b .count) 0) (b .nontarget) (has-disease passes assessed))
     where
-      go : (z n : Bool) → both z (not n) ≡ false → overallAnswer true false (pick z NA CR) (statusWord (pick n S.CR S.NA)) ≡ CR
+      go : (z n : Bool) → both z (not n) ≡ false → overallBy true false (pick z NA CR) (statusWord (pick n S.CR S.NA)) ≡ CR
       go true true e = refl
       go true false e = absurd (never e)
       go false true e = refl
       go false false e = refl
 
-  pub complete-judged : (p : Past) (d : ℕ) → fieldsPass (baseline b) ≡ true → b .assessed ≡ true →
-      judge b p d (completeVisit b) ≡ record { day = d; answer = CR }
-  unfolding judge completeVisit
-  complete-judged p d passes assessed = cc (complete-overall (visitsOf p) passes assessed)
+  pub complete-answer : (p : Past) → fieldsPass (baseline b) ≡ true → b .assessed ≡ true → answerAt b p (completeVisit b) ≡ CR
+  unfolding answerAt completeVisit
+  complete-answer p passes assessed = complete-overall (visitsOf p) passes assessed
 
   complete-fits : fits b (completeVisit b) ≡ true
   unfolding measuredBeyond fitsBy fits completeVisit

@@ -8,17 +8,19 @@ use native.Mathlib.Omega.{arith}
 use lib.Dec.{leb}
 use borrow.Author.Tests.{leb-true, leb-false}
 use Rattle.laws.proofs.Tests.{never, either-with-true}
-use Rattle.endpoints.specs.Values.{isRecorded, exists}
+use Rattle.endpoints.specs.Values.{none, isRecorded, exists}
 use Rattle.endpoints.specs.StudyRecords.{Baseline, baseline, fieldsPass}
-use Rattle.endpoints.specs.Lawful.{Past, latestDay, died, lawfulBehind}
-use Rattle.endpoints.specs.Visits.{therapyRecorded, progression}
+use Rattle.endpoints.specs.Lawful.{Past, lawfulBehind}
+use Rattle.endpoints.specs.Course.{Course, course, latestIn, deathIn, therapyIn, progression}
 use Rattle.endpoints.specs.Pfs.{earlyDeath, pfs}
 use Rattle.endpoints.specs.Best.{isCR, isResponse, best, duration}
 use Rattle.endpoints.specs.Settled.{settledFrom, pfsSettledBy, bestSettledBy, durationSettledBy, pfsSettled, bestSettled, durationSettled}
 use Rattle.endpoints.specs.Lasting.{EveryMarkExact}
-use Rattle.endpoints.proofs.Behind.{Unchanged}
+use Rattle.endpoints.proofs.Behind.{absent, Unchanged}
+use Rattle.endpoints.proofs.Missing.{missing-visits}
 use Rattle.endpoints.proofs.PfsLasts.{PfsOver, progressed, dead, late, pfs-lasts}
-use Rattle.endpoints.proofs.BestLasts.{closed, afterDeath, missing, BestOver, counted, complete, words-of-best, confirmed-best, best-lasts, ended, without, duration-lasts, missing-no-response}
+use Rattle.endpoints.proofs.BestLasts.{closed, afterDeath, missing, BestOver, counted, complete, words-of-best, confirmed-best, best-lasts, ended, without, duration-lasts, no-response}
+use Rattle.endpoints.proofs.Runs.{same-after-one, same-after-two, same-after-death}
 use Rattle.endpoints.proofs.PfsChanges.{pfs-changes, pfs-changes-missing}
 use Rattle.endpoints.proofs.BestChanges.{duration-exists, best-changes, duration-begins, duration-grows}
 
@@ -28,82 +30,92 @@ holds e a = (λ t. a, λ x. e)
 fails : {m : Bool} {A : Type 0} → m ≡ false → (A → ⊥) → (m ≡ true) ↔ A
 fails e n = (λ t. absurd (never (sym t ∙ e)), λ x. absurd (n x))
 
-module _ (b : Baseline) (p : Past) {A : Type 0} where
+module _ (assessed : Bool) (c : Course) {A : Type 0} where
   -- PFS's mark is true exactly when A holds, where A follows from each reason for PFS to last and is false without one
-  pfs-mark : (PfsOver b p → A) →
-      (died p ≡ false → b .assessed ≡ true → isRecorded (progression b p) ≡ false → A → ⊥) →
-      (died p ≡ false → b .assessed ≡ false → latestDay p - 1 ≤ earlyDeath → A → ⊥) →
-      (pfsSettled b p ≡ true) ↔ A
+  pfs-mark : (PfsOver assessed c → A) →
+      (deathIn c ≡ none → assessed ≡ true → progression c ≡ none → A → ⊥) →
+      (deathIn c ≡ none → assessed ≡ false → latestIn c - 1 ≤ earlyDeath → A → ⊥) →
+      (pfsSettled assessed c ≡ true) ↔ A
   unfolding pfsSettled pfsSettledBy settledFrom
   pfs-mark over assessed-open missing-open =
-      go (b .assessed) refl (isRecorded (progression b p)) refl (died p) refl (leb settledFrom (latestDay p)) refl
+      go assessed refl (isRecorded (progression c)) refl (isRecorded (deathIn c)) refl (leb settledFrom (latestIn c)) refl
     where
-      is : (a g d : Bool) → b .assessed ≡ a → isRecorded (progression b p) ≡ g → died p ≡ d → pfsSettled b p ≡ pfsSettledBy a g d (latestDay p)
+      is : (a g d : Bool) → assessed ≡ a → isRecorded (progression c) ≡ g → isRecorded (deathIn c) ≡ d → pfsSettled assessed c ≡ pfsSettledBy a g d (latestIn c)
       is a g d ea eg ed = cc
 
-      go : (a : Bool) → b .assessed ≡ a → (g : Bool) → isRecorded (progression b p) ≡ g → (d : Bool) → died p ≡ d →
-          (t : Bool) → leb settledFrom (latestDay p) ≡ t → (pfsSettled b p ≡ true) ↔ A
+      go : (a : Bool) → assessed ≡ a → (g : Bool) → isRecorded (progression c) ≡ g → (d : Bool) → isRecorded (deathIn c) ≡ d →
+          (t : Bool) → leb settledFrom (latestIn c) ≡ t → (pfsSettled assessed c ≡ true) ↔ A
       go true ea true eg d ed t et = holds (is true true d ea eg ed) (over (progressed eg))
       go true ea false eg true ed t et = holds (is true false true ea eg ed) (over (dead ed))
-      go true ea false eg false ed t et = fails (is true false false ea eg ed) (assessed-open ed ea eg)
+      go true ea false eg false ed t et = fails (is true false false ea eg ed) (assessed-open (absent (deathIn c) ed) ea (absent (progression c) eg))
       go false ea g eg true ed t et = holds (is false g true ea eg ed) (over (dead ed))
       go false ea g eg false ed true et =
-          let h = leb-true settledFrom (latestDay p) et in
+          let h = leb-true settledFrom (latestIn c) et in
           holds (is false g false ea eg ed ∙ et) (over (late ea (omega arith)))
       go false ea g eg false ed false et =
-          let h = leb-false settledFrom (latestDay p) et in
-          fails (is false g false ea eg ed ∙ et) (missing-open ed ea (omega arith))
+          let h = leb-false settledFrom (latestIn c) et in
+          fails (is false g false ea eg ed ∙ et) (missing-open (absent (deathIn c) ed) ea (omega arith))
 
   -- best response's mark likewise
-  best-mark : (BestOver b p → A) →
-      (died p ≡ false → b .assessed ≡ true → therapyRecorded p ≡ false → isRecorded (progression b p) ≡ false → isCR (best b p) ≡ false → A → ⊥) →
-      (bestSettled b p ≡ true) ↔ A
+  best-mark : (BestOver assessed c → A) →
+      (deathIn c ≡ none → assessed ≡ true → therapyIn c ≡ false → progression c ≡ none → isCR (best c) ≡ false → A → ⊥) →
+      (bestSettled assessed c ≡ true) ↔ A
   unfolding bestSettled bestSettledBy
   best-mark over open-still =
-      go (isRecorded (progression b p)) refl (therapyRecorded p) refl (died p) refl (b .assessed) refl (isCR (best b p)) refl
+      go (isRecorded (progression c)) refl (therapyIn c) refl (isRecorded (deathIn c)) refl assessed refl (isCR (best c)) refl
     where
-      is : (g t d a : Bool) → isRecorded (progression b p) ≡ g → therapyRecorded p ≡ t → died p ≡ d → b .assessed ≡ a →
-          bestSettled b p ≡ bestSettledBy g t d a (best b p)
+      is : (g t d a : Bool) → isRecorded (progression c) ≡ g → therapyIn c ≡ t → isRecorded (deathIn c) ≡ d → assessed ≡ a →
+          bestSettled assessed c ≡ bestSettledBy g t d a (best c)
       is g t d a eg et ed ea = cc
 
-      go : (g : Bool) → isRecorded (progression b p) ≡ g → (t : Bool) → therapyRecorded p ≡ t → (d : Bool) → died p ≡ d →
-          (a : Bool) → b .assessed ≡ a → (c : Bool) → isCR (best b p) ≡ c → (bestSettled b p ≡ true) ↔ A
-      go true eg t et d ed a ea c ec = holds (is true t d a eg et ed ea) (over (counted (closed (rw eg (either-with-true (therapyRecorded p))))))
-      go false eg true et d ed a ea c ec = holds (is false true d a eg et ed ea) (over (counted (closed (rw et))))
-      go false eg false et true ed a ea c ec = holds (is false false true a eg et ed ea) (over (counted (afterDeath ed)))
-      go false eg false et false ed false ea c ec = holds (is false false false false eg et ed ea) (over (counted (missing ea)))
-      go false eg false et false ed true ea true ec =
-          holds (is false false false true eg et ed ea ∙ ec) (over (complete (sym (words-of-best b p .0) ∙ ec)))
-      go false eg false et false ed true ea false ec =
-          fails (is false false false true eg et ed ea ∙ ec) (open-still ed ea et eg ec)
+      go : (g : Bool) → isRecorded (progression c) ≡ g → (t : Bool) → therapyIn c ≡ t → (d : Bool) → isRecorded (deathIn c) ≡ d →
+          (a : Bool) → assessed ≡ a → (x : Bool) → isCR (best c) ≡ x → (bestSettled assessed c ≡ true) ↔ A
+      go true eg t et d ed a ea x ex = holds (is true t d a eg et ed ea) (over (counted (closed (rw eg (either-with-true (therapyIn c))))))
+      go false eg true et d ed a ea x ex = holds (is false true d a eg et ed ea) (over (counted (closed (rw et))))
+      go false eg false et true ed a ea x ex = holds (is false false true a eg et ed ea) (over (counted (afterDeath ed)))
+      go false eg false et false ed false ea x ex = holds (is false false false false eg et ed ea) (over (counted (missing ea)))
+      go false eg false et false ed true ea true ex =
+          holds (is false false false true eg et ed ea ∙ ex) (over (complete (sym (words-of-best c .0) ∙ ex)))
+      go false eg false et false ed true ea false ex =
+          fails (is false false false true eg et ed ea ∙ ex) (open-still (absent (deathIn c) ed) ea et (absent (progression c) eg) ex)
 
 module _ (b : Baseline) (p : Past) (passes : fieldsPass (baseline b) ≡ true) (lawfully : lawfulBehind b p ≡ true) where
-  pfs-exact : (pfsSettled b p ≡ true) ↔ Unchanged pfs b p
-  pfs-exact =
-      pfs-mark b p (pfs-lasts b p) (λ alive. pfs-changes b p alive passes lawfully) (λ alive. pfs-changes-missing b p alive passes lawfully)
+  abbrev c : Course
+  c = course b p
 
-  best-exact : (bestSettled b p ≡ true) ↔ Unchanged best b p
-  best-exact = best-mark b p (best-lasts b p) (λ alive. best-changes b p alive passes lawfully)
+  pfs-exact : (pfsSettled (b .assessed) c ≡ true) ↔ Unchanged pfs b p
+  pfs-exact =
+      pfs-mark (b .assessed) c (pfs-lasts b p)
+      (λ alive assessed e lasts. pfs-changes c alive e (same-after-one pfs b p lawfully alive lasts passes assessed))
+      (λ alive m early lasts. pfs-changes-missing c alive (missing-visits b p m) early (same-after-death pfs b p lawfully alive lasts))
+
+  best-exact : (bestSettled (b .assessed) c ≡ true) ↔ Unchanged best b p
+  best-exact =
+      best-mark (b .assessed) c (best-lasts b p)
+      (λ alive assessed untreated e short lasts. best-changes c e untreated short (same-after-two best b p lawfully alive lasts passes assessed))
 
   -- where a duration exists, and where not
-  grows : exists (duration b p) ≡ true → (pfsSettled b p ≡ true) ↔ Unchanged duration b p
+  grows : exists (duration c) ≡ true → (pfsSettled (b .assessed) c ≡ true) ↔ Unchanged duration b p
   grows there =
-      pfs-mark b p (λ over. duration-lasts b p (ended over)) (λ alive assessed e. duration-grows b p alive passes lawfully assessed e there)
-      (λ alive m early lasts. never (sym there ∙ duration-exists b p ∙ missing-no-response b p m))
+      pfs-mark (b .assessed) c (λ over. duration-lasts b p (ended over))
+      (λ alive assessed e lasts. duration-grows c e alive there (same-after-one duration b p lawfully alive lasts passes assessed))
+      (λ alive m early lasts. never (sym there ∙ duration-exists c ∙ no-response c (missing-visits b p m)))
 
-  begins : exists (duration b p) ≡ false → (bestSettled b p ≡ true) ↔ Unchanged duration b p
+  begins : exists (duration c) ≡ false → (bestSettled (b .assessed) c ≡ true) ↔ Unchanged duration b p
   begins not-there =
-      best-mark b p by (λ alive assessed untreated e short. duration-begins b p alive passes lawfully assessed untreated e not-there)
+      best-mark (b .assessed) c by
+      (λ alive assessed untreated e short lasts.
+      duration-begins c e untreated not-there (same-after-two duration b p lawfully alive lasts passes assessed))
     where
-      by : BestOver b p → Unchanged duration b p
-      by (counted c) = duration-lasts b p (without (sym (duration-exists b p) ∙ not-there) c)
-      by (complete e) = absurd (never (sym (ap isResponse (confirmed-best b p e)) ∙ sym (duration-exists b p) ∙ not-there))
+      by : BestOver (b .assessed) c → Unchanged duration b p
+      by (counted q) = duration-lasts b p (without (sym (duration-exists c) ∙ not-there) q)
+      by (complete q) = absurd (never (sym (ap isResponse (confirmed-best c q)) ∙ sym (duration-exists c) ∙ not-there))
 
-  duration-exact : (durationSettled b p ≡ true) ↔ Unchanged duration b p
+  duration-exact : (durationSettled (b .assessed) c ≡ true) ↔ Unchanged duration b p
   unfolding durationSettled durationSettledBy
-  duration-exact = go (exists (duration b p)) refl
+  duration-exact = go (exists (duration c)) refl
     where
-      go : (x : Bool) → exists (duration b p) ≡ x → (durationSettled b p ≡ true) ↔ Unchanged duration b p
+      go : (x : Bool) → exists (duration c) ≡ x → (durationSettled (b .assessed) c ≡ true) ↔ Unchanged duration b p
       go true e = rw e (grows e)
       go false e = rw e (begins e)
 

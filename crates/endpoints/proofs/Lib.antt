@@ -1,9 +1,10 @@
 pub mod AtTheEdges
-pub mod Behind
 pub mod Missing
+pub mod Behind
 pub mod PfsLasts
 pub mod BestLasts
 pub mod CompleteVisit
+pub mod Runs
 pub mod PfsChanges
 pub mod BestChanges
 pub mod Exact

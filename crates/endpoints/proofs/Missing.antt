@@ -2,31 +2,31 @@
 -- Assumes nothing.
 use mathlib.Core.Path.{_≡_, refl}
 use mathlib.Core.Bool.{false}
-use mathlib.Core.List.{[], _∷_}
-use Prim.Native.Nat.{ℕ}
+use mathlib.Core.List.{List, [], _∷_}
 use Rattle.criteria.specs.Words.{NE}
-use Rattle.criteria.specs.Inputs.{Visit}
 use Rattle.criteria.proofs.Laws.{overall-laws}
 use Rattle.endpoints.specs.Values.{none}
 use Rattle.endpoints.specs.StudyRecords.{Baseline, baseline, visit, therapy, death, disease}
 use Rattle.endpoints.specs.Lawful.{Past}
-use Rattle.endpoints.specs.Visits.{visitsOf, judge, judged, progression}
+use Rattle.endpoints.specs.Course.{visitsOf, Judged, answerAt, course, visitsIn, firstPD}
 use Rattle.endpoints.specs.Pfs.{beforeEvent, lastEvaluable}
 
-pub missing-answer : (b : Baseline) (p : Past) (d : ℕ) (v : Visit) → b .assessed ≡ false → judge b p d v .answer ≡ NE
-unfolding judge
-missing-answer b p d v e = overall-laws .missing (disease b) (visitsOf p) v e
+abbrev pub AllNE : List Judged → Type 0
+AllNE [] = Unit {0}
+AllNE (j ∷ js) = (j .answer ≡ NE) × AllNE js
 
-pub missing-progression : (b : Baseline) (p : Past) → b .assessed ≡ false → progression b p ≡ none
-missing-progression b [] e = refl
-missing-progression b (baseline x ∷ p) e = missing-progression b p e
-missing-progression b (visit d v ∷ p) e = rw (missing-progression b p e, missing-answer b p d v e)
-missing-progression b (therapy d ∷ p) e = missing-progression b p e
-missing-progression b (death d ∷ p) e = missing-progression b p e
+pub missing-visits : (b : Baseline) (p : Past) → b .assessed ≡ false → AllNE (visitsIn (course b p))
+unfolding answerAt
+missing-visits b [] m = tt
+missing-visits b (baseline x ∷ p) m = missing-visits b p m
+missing-visits b (visit d v ∷ p) m = (overall-laws .missing (disease b) (visitsOf p) v m, missing-visits b p m)
+missing-visits b (therapy d ∷ p) m = missing-visits b p m
+missing-visits b (death d ∷ p) m = missing-visits b p m
 
-pub missing-evaluable : (b : Baseline) (p : Past) → b .assessed ≡ false → lastEvaluable (beforeEvent (judged b p)) ≡ none
-missing-evaluable b [] e = refl
-missing-evaluable b (baseline x ∷ p) e = missing-evaluable b p e
-missing-evaluable b (visit d v ∷ p) e = rw (missing-progression b p e, missing-answer b p d v e) (missing-evaluable b p e)
-missing-evaluable b (therapy d ∷ p) e = missing-evaluable b p e
-missing-evaluable b (death d ∷ p) e = missing-evaluable b p e
+pub no-progression : (js : List Judged) → AllNE js → firstPD js ≡ none
+no-progression [] u = refl
+no-progression (j ∷ js) u = rw (no-progression js (u .1), u .0)
+
+pub no-evaluable : (js : List Judged) → AllNE js → lastEvaluable (beforeEvent js) ≡ none
+no-evaluable [] u = refl
+no-evaluable (j ∷ js) u = rw (no-progression js (u .1), u .0) (no-evaluable js (u .1))

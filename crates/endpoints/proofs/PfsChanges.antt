@@ -1,4 +1,4 @@
--- Lists behind which some lawful run changes PFS: the run is built. The mark is not named here.
+-- Courses of which some further event changes PFS. The mark is not named here.
 -- Assumes nothing.
 use mathlib.Core.Path.{_≡_, refl, sym, ap, _∙_}
 use mathlib.Core.Bool.{Bool, true, false}
@@ -9,38 +9,32 @@ use borrow.Author.Tests.{le-leb}
 use Rattle.laws.specs.Choice.{pick}
 use Rattle.criteria.specs.Overall.{evaluable}
 use Rattle.endpoints.specs.Values.{none, on, isRecorded, orDay1, Pfs, EVENT, CENSORED, event, censored}
-use Rattle.endpoints.specs.StudyRecords.{Baseline, baseline, visit, therapy, death, fieldsPass}
-use Rattle.endpoints.specs.Lawful.{Past, latestDay, deathDay, died, lawfulBehind}
-use Rattle.endpoints.specs.Visits.{Judged, judge, judged, firstPD, progression, countingClosed, counting}
+use Rattle.endpoints.specs.Course.{Judged, visited, therapyOn, deathOn, Course, latestIn, deathIn, visitsIn, firstPD, progression, countingClosed, counting}
 use Rattle.endpoints.specs.Pfs.{beforeEvent, lastEvaluable, earlyDeath, pfs}
-use Rattle.endpoints.proofs.Behind.{absent, from-day-1, Unchanged}
-use Rattle.endpoints.proofs.Missing.{missing-progression, missing-evaluable}
-use Rattle.endpoints.proofs.CompleteVisit.{completeVisit, complete-judged, complete-passes, complete-lawful}
+use Rattle.endpoints.proofs.Behind.{from-day-1-in}
+use Rattle.endpoints.proofs.Missing.{AllNE, no-progression, no-evaluable}
+use Rattle.endpoints.proofs.Runs.{oneMore, deathNow}
 
 -- every visit is on a day up to d
 abbrev pub Until : ℕ → List Judged → Type 0
 Until d [] = Unit {0}
 Until d (j ∷ js) = (j .day ≤ d) × Until d js
 
-pub judged-until : (b : Baseline) (d : ℕ) (p : Past) → latestDay p ≤ d → Until d (judged b p)
-unfolding judge
-judged-until b d [] h = tt
-judged-until b d (baseline x ∷ p) h = judged-until b d p (omega arith)
-judged-until b d (visit t v ∷ p) h = (omega arith, judged-until b d p (omega arith))
-judged-until b d (therapy t ∷ p) h = judged-until b d p (omega arith)
-judged-until b d (death t ∷ p) h = judged-until b d p (omega arith)
+visits-until : (d : ℕ) (c : Course) → latestIn c ≤ d → Until d (visitsIn c)
+visits-until d [] h = tt
+visits-until d (visited j ∷ c) h = (omega arith, visits-until d c (omega arith))
+visits-until d (therapyOn t ∷ c) h = visits-until d c (omega arith)
+visits-until d (deathOn t ∷ c) h = visits-until d c (omega arith)
 
-pub counting-until : (b : Baseline) (d : ℕ) (p : Past) → latestDay p ≤ d → Until d (counting b p)
-unfolding judge
-counting-until b d [] h = tt
-counting-until b d (baseline x ∷ p) h = counting-until b d p (omega arith)
-counting-until b d (visit t v ∷ p) h = go (countingClosed b p) (counting-until b d p (omega arith))
+pub counting-until : (d : ℕ) (c : Course) → latestIn c ≤ d → Until d (counting c)
+counting-until d [] h = tt
+counting-until d (visited j ∷ c) h = go (countingClosed c) (counting-until d c (omega arith))
   where
-    go : (x : Bool) → Until d (counting b p) → Until d (pick x (counting b p) (judge b p t v ∷ counting b p))
+    go : (x : Bool) → Until d (counting c) → Until d (pick x (counting c) (j ∷ counting c))
     go true u = u
     go false u = (omega arith, u)
-counting-until b d (therapy t ∷ p) h = counting-until b d p (omega arith)
-counting-until b d (death t ∷ p) h = counting-until b d p (omega arith)
+counting-until d (therapyOn t ∷ c) h = counting-until d c (omega arith)
+counting-until d (deathOn t ∷ c) h = counting-until d c (omega arith)
 
 evaluable-until : (d : ℕ) (js : List Judged) → 1 ≤ d → Until d js → orDay1 (lastEvaluable (beforeEvent js)) ≤ d
 evaluable-until d [] one u = one
@@ -54,51 +48,37 @@ evaluable-until d (j ∷ js) one u = before (isRecorded (firstPD (j ∷ js))) (e
     before true h = h
     before false h = at (evaluable (j .answer)) h
 
--- the day at which a list without progression and death is censored
-unfoldable pub censoredOn : Baseline → Past → ℕ
-censoredOn b p = orDay1 (lastEvaluable (beforeEvent (judged b p)))
+-- the day at which a course without progression and death is censored
+unfoldable pub censoredOn : Course → ℕ
+censoredOn c = orDay1 (lastEvaluable (beforeEvent (visitsIn c)))
 
-pub censored-until : (b : Baseline) (p : Past) → censoredOn b p ≤ latestDay p
-unfolding censoredOn
-censored-until b p = evaluable-until (latestDay p) (judged b p) (from-day-1 p) (judged-until b (latestDay p) p (omega arith))
+module _ (c : Course) where
+  pub censored-until : censoredOn c ≤ latestIn c
+  unfolding censoredOn
+  censored-until = evaluable-until (latestIn c) (visitsIn c) (from-day-1-in c) (visits-until (latestIn c) c (omega arith))
 
--- a list with a CR visit on the day after the latest
-abbrev pub oneMore : Baseline → Past → Past
-oneMore b p = visit (suc (latestDay p)) (completeVisit b) ∷ p
+  module _ (alive : deathIn c ≡ none) where
+    pub open-pfs : progression c ≡ none → pfs c ≡ censored (censoredOn c)
+    unfolding pfs censoredOn
+    open-pfs e = rw (e, alive)
 
-module _ (b : Baseline) (p : Past) (alive : died p ≡ false) where
-  pub open-pfs : progression b p ≡ none → pfs b p ≡ censored (censoredOn b p)
-  unfolding pfs censoredOn
-  open-pfs e = rw (e, absent (deathDay p) alive)
-
-  module _ (passes : fieldsPass (baseline b) ≡ true) (lawfully : lawfulBehind b p ≡ true) where
-    pub one-more-lawful : lawfulBehind b (oneMore b p) ≡ true
-    one-more-lawful = complete-lawful b p (suc (latestDay p)) lawfully alive (omega arith)
-
-    pub one-more-pfs : b .assessed ≡ true → progression b p ≡ none → pfs b (oneMore b p) ≡ censored (suc (latestDay p))
+    pub one-more-pfs : progression c ≡ none → pfs (oneMore c) ≡ censored (suc (latestIn c))
     unfolding pfs
-    one-more-pfs assessed e = rw (complete-judged b p (suc (latestDay p)) passes assessed, e, absent (deathDay p) alive)
+    one-more-pfs e = rw (e, alive)
 
-    pub pfs-changes : b .assessed ≡ true → isRecorded (progression b p) ≡ false → Unchanged pfs b p → ⊥
-    pfs-changes assessed e lasts =
-        let none-yet = absent (progression b p) e in
-        let same = lasts (visit (suc (latestDay p)) (completeVisit b) ∷ []) (rw (complete-passes b (suc (latestDay p)))) one-more-lawful in
-        let days = ap (λ (x : Pfs). x .day) (sym (one-more-pfs assessed none-yet) ∙ same ∙ open-pfs none-yet) in
-        let last = censored-until b p in
+    pub pfs-changes : progression c ≡ none → pfs (oneMore c) ≡ pfs c → ⊥
+    pfs-changes e same =
+        let days = ap (λ (x : Pfs). x .day) (sym (one-more-pfs e) ∙ same ∙ open-pfs e) in
+        let last = censored-until in
         omega arith
 
     -- baseline missing: a death on the latest day, where it is an early one
-    early-death-pfs : b .assessed ≡ false → latestDay p - 1 ≤ earlyDeath → pfs b (death (latestDay p) ∷ p) ≡ event (latestDay p)
+    early-death-pfs : AllNE (visitsIn c) → latestIn c - 1 ≤ earlyDeath → pfs (deathNow c) ≡ event (latestIn c)
     unfolding pfs
-    early-death-pfs m h =
-        rw (missing-progression b p m, missing-evaluable b p m, absent (deathDay p) alive, le-leb (latestDay p - 1) earlyDeath h)
+    early-death-pfs u h = rw (no-progression (visitsIn c) u, no-evaluable (visitsIn c) u, alive, le-leb (latestIn c - 1) earlyDeath h)
 
-    death-lawful : lawfulBehind b (death (latestDay p) ∷ p) ≡ true
-    death-lawful = rw (lawfully, alive, le-leb (latestDay p) (latestDay p) (omega arith))
-
-    pub pfs-changes-missing : b .assessed ≡ false → latestDay p - 1 ≤ earlyDeath → Unchanged pfs b p → ⊥
-    pfs-changes-missing m h lasts =
-        let same = lasts (death (latestDay p) ∷ []) refl death-lawful in
-        let statuses : EVENT ≡ CENSORED = ap (λ (x : Pfs). x .status) (sym (early-death-pfs m h) ∙ same ∙ open-pfs (missing-progression b p m)) in
+    pub pfs-changes-missing : AllNE (visitsIn c) → latestIn c - 1 ≤ earlyDeath → pfs (deathNow c) ≡ pfs c → ⊥
+    pfs-changes-missing u h same =
+        let statuses : EVENT ≡ CENSORED = ap (λ (x : Pfs). x .status) (sym (early-death-pfs u h) ∙ same ∙ open-pfs (no-progression (visitsIn c) u)) in
         let z : _≡_ {A = ℕ} 0 1 = cc in
         omega arith

@@ -1,53 +1,48 @@
--- Reasons for which PFS lasts: each further record of a lawful list keeps it, and a reason for it. The mark is not named here.
+-- Reasons for which PFS lasts: each further event of a lawful list keeps it, and a reason for it. The mark is not named here.
 -- Assumes nothing.
-use mathlib.Core.Path.{_≡_, refl, sym, _∙_}
-use mathlib.Core.Bool.{true, false}
+use mathlib.Core.Path.{_≡_, refl, sym, ap, _∙_}
+use mathlib.Core.Bool.{Bool, true, false}
 use mathlib.Core.List.{_∷_}
 use Prim.Native.Nat.{ℕ, _-_, _<_}
 use native.Mathlib.Omega.{arith}
 use borrow.Author.Tests.{lt-leb}
 use Rattle.laws.proofs.Tests.{never}
 use Rattle.endpoints.specs.Values.{none, on, isRecorded}
-use Rattle.endpoints.specs.StudyRecords.{Baseline, StudyRecord, baseline, visit, therapy, death, dayOf}
-use Rattle.endpoints.specs.Lawful.{Past, latestDay, deathDay, died}
-use Rattle.endpoints.specs.Visits.{progression}
+use Rattle.endpoints.specs.StudyRecords.{Baseline}
+use Rattle.endpoints.specs.Lawful.{Past}
+use Rattle.endpoints.specs.Course.{Occurrence, visited, therapyOn, deathOn, Course, course, dayIn, latestIn, deathIn, visitsIn, progression}
 use Rattle.endpoints.specs.Pfs.{earlyDeath, pfs}
-use Rattle.endpoints.proofs.Behind.{recorded-on, absent, recorded-keeps, Next, rising, lasts-by, Unchanged}
-use Rattle.endpoints.proofs.Missing.{missing-answer, missing-progression, missing-evaluable}
+use Rattle.endpoints.proofs.Behind.{recorded-on, recorded-keeps, Follows, lasts-by, Unchanged}
+use Rattle.endpoints.proofs.Missing.{AllNE, no-progression, no-evaluable}
 
 -- PFS: a progression or a death is recorded, or the baseline is missing and a death from now on is no early one
-pub data PfsOver (b : Baseline) (p : Past) : Type 0 where
-  progressed : isRecorded (progression b p) ≡ true → PfsOver b p
-  dead : died p ≡ true → PfsOver b p
-  late : b .assessed ≡ false → earlyDeath < latestDay p - 1 → PfsOver b p
+pub data PfsOver (assessed : Bool) (c : Course) : Type 0 where
+  progressed : isRecorded (progression c) ≡ true → PfsOver assessed c
+  dead : isRecorded (deathIn c) ≡ true → PfsOver assessed c
+  late : assessed ≡ false → earlyDeath < latestIn c - 1 → PfsOver assessed c
 
-module _ (b : Baseline) (p : Past) where
-  progression-keeps : (r : StudyRecord) → isRecorded (progression b p) ≡ true → isRecorded (progression b (r ∷ p)) ≡ true
-  progression-keeps (baseline x) e = e
-  progression-keeps (visit d v) e = recorded-keeps (progression b p) _ e
-  progression-keeps (therapy d) e = e
-  progression-keeps (death d) e = e
+module _ (c : Course) where
+  progression-keeps : (e : Occurrence) → isRecorded (progression c) ≡ true → isRecorded (progression (e ∷ c)) ≡ true
+  progression-keeps (visited j) q = recorded-keeps (progression c) _ q
+  progression-keeps (therapyOn d) q = q
+  progression-keeps (deathOn d) q = q
 
-  pfs-progressed : (r : StudyRecord) (d : ℕ) → progression b p ≡ on d → pfs b (r ∷ p) ≡ pfs b p
+  pfs-progressed : (e : Occurrence) (d : ℕ) → progression c ≡ on d → pfs (e ∷ c) ≡ pfs c
   unfolding pfs
-  pfs-progressed (baseline x) d e = refl
-  pfs-progressed (visit t v) d e = rw e
-  pfs-progressed (therapy t) d e = refl
-  pfs-progressed (death t) d e = rw e
+  pfs-progressed (visited j) d q = rw q
+  pfs-progressed (therapyOn t) d q = refl
+  pfs-progressed (deathOn t) d q = rw q
 
-  pfs-late : (r : StudyRecord) → b .assessed ≡ false → deathDay p ≡ none → earlyDeath < dayOf r - 1 → pfs b (r ∷ p) ≡ pfs b p
+  pfs-late : (e : Occurrence) → AllNE (visitsIn (e ∷ c)) → deathIn c ≡ none → earlyDeath < dayIn e - 1 → pfs (e ∷ c) ≡ pfs c
   unfolding pfs
-  pfs-late (baseline x) m a h = refl
-  pfs-late (visit t v) m a h = rw (missing-progression b p m, missing-answer b p t v m, a, missing-evaluable b p m)
-  pfs-late (therapy t) m a h = refl
-  pfs-late (death t) m a h = rw (missing-progression b p m, missing-evaluable b p m, a, lt-leb (t - 1) earlyDeath h)
+  pfs-late (visited j) u a h = rw (no-progression (visitsIn c) (u .1), u .0, a, no-evaluable (visitsIn c) (u .1))
+  pfs-late (therapyOn t) u a h = refl
+  pfs-late (deathOn t) u a h = rw (no-progression (visitsIn c) u, no-evaluable (visitsIn c) u, a, lt-leb (t - 1) earlyDeath h)
 
-  pub pfs-keeps : (r : StudyRecord) → Next b p r → PfsOver b p → PfsOver b (r ∷ p) × (pfs b (r ∷ p) ≡ pfs b p)
-  pfs-keeps r n (progressed e) = let d = recorded-on (progression b p) e in (progressed (progression-keeps r e), pfs-progressed r (d .0) (d .1))
-  pfs-keeps r n (dead e) = absurd (never (sym e ∙ n .alive))
-  pfs-keeps r n (late m h) =
-      let up = rising b (latestDay p) r (n .place) in
-      (late m (omega arith), pfs-late r m (absent (deathDay p) (n .alive)) (omega arith))
+pub pfs-keeps : {assessed : Bool} (c : Course) (e : Occurrence) → Follows assessed c e → PfsOver assessed c → PfsOver assessed (e ∷ c) × (pfs (e ∷ c) ≡ pfs c)
+pfs-keeps c e f (progressed q) = let d = recorded-on (progression c) q in (progressed (progression-keeps c e q), pfs-progressed c e (d .0) (d .1))
+pfs-keeps c e f (dead q) = absurd (never (sym q ∙ ap isRecorded (f .alive)))
+pfs-keeps c e f (late m h) = let up = f .later in (late m (omega arith), pfs-late c e (f .unassessed m) (f .alive) (omega arith))
 
-pub pfs-lasts : (b : Baseline) (p : Past) → PfsOver b p → Unchanged pfs b p
-pfs-lasts b p why = lasts-by pfs (PfsOver b) b (pfs-keeps b) p why
+pub pfs-lasts : (b : Baseline) (p : Past) → PfsOver (b .assessed) (course b p) → Unchanged pfs b p
+pfs-lasts b p why = lasts-by pfs (PfsOver (b .assessed)) b pfs-keeps p why

@@ -7,9 +7,7 @@ use lib.Dec.{leb}
 use Rattle.laws.specs.Choice.{both, either, pick}
 use Rattle.criteria.specs.Words.{Word, CR, PR, SD, PD, NE, NA, NN}
 use Rattle.endpoints.specs.Values.{Day, none, on, isRecorded, _orElse_, Pfs, Duration, noDuration, forDays}
-use Rattle.endpoints.specs.StudyRecords.{Baseline}
-use Rattle.endpoints.specs.Lawful.{Past}
-use Rattle.endpoints.specs.Visits.{Judged, firstPD, counting}
+use Rattle.endpoints.specs.Course.{Judged, Course, firstPD, counting}
 use Rattle.endpoints.specs.Pfs.{pfs}
 
 abbrev pub isCR : Word → Bool
@@ -91,9 +89,8 @@ stable (j ∷ js) = either (both (isStableOrBetter (j .answer)) (leb stableFrom 
 abbrev pub bestOf : Bool → Bool → Bool → Bool → Word
 bestOf cr pr sd pd = pick cr CR (pick pr PR (pick sd SD (pick pd PD NE)))
 
-unfoldable pub best : Baseline → Past → Word
-best b p =
-    bestOf (confirmedCR (counting b p)) (confirmedResponse (counting b p)) (stable (counting b p)) (isRecorded (firstPD (counting b p)))
+unfoldable pub best : Course → Word
+best c = bestOf (confirmedCR (counting c)) (confirmedResponse (counting c)) (stable (counting c)) (isRecorded (firstPD (counting c)))
 
 abbrev pub firstResponse : List Judged → Day
 firstResponse [] = none
@@ -104,5 +101,5 @@ abbrev pub durationOf : Word → Day → Pfs → Duration
 durationOf best none pfs = noDuration
 durationOf best (on first) pfs = pick (isResponse best) (forDays (pfs .status) (pfs .day - first + 1)) noDuration
 
-unfoldable pub duration : Baseline → Past → Duration
-duration b p = durationOf (best b p) (firstResponse (counting b p)) (pfs b p)
+unfoldable pub duration : Course → Duration
+duration c = durationOf (best c) (firstResponse (counting c)) (pfs c)

@@ -17,7 +17,7 @@ use Rattle.criteria.specs.Examples.{marked}
 use Rattle.endpoints.specs.Values.{Pfs, event, censored, Duration, noDuration}
 use Rattle.endpoints.specs.StudyRecords.{Baseline, StudyRecord, baseline, visit, therapy, death, disease, allPass}
 use Rattle.endpoints.specs.Lawful.{Past, lawful}
-use Rattle.endpoints.specs.Visits.{visitsOf, Judged, judged}
+use Rattle.endpoints.specs.Course.{visitsOf, Judged, course, visitsIn}
 use Rattle.endpoints.specs.Best.{isCR}
 use Rattle.endpoints.specs.Settled.{outcome}
 
@@ -165,7 +165,7 @@ lawfulAndPassing (e ∷ es) =
     both (both (lawful (baseline (e .opening) ∷ e .behind)) (allPass (baseline (e .opening) ∷ e .behind))) (lawfulAndPassing es)
 
 abbrev pub overallAnswers : Example → List Word
-overallAnswers e = map (λ (j : Judged). j .answer) (reverse (judged (e .opening) (reverse (e .behind))))
+overallAnswers e = map (λ (j : Judged). j .answer) (reverse (visitsIn (course (e .opening) (reverse (e .behind)))))
 
 abbrev pub answered : Example → Said
 answered e = e .asked (e .opening) (reverse (e .behind))

@@ -5,7 +5,7 @@ use mathlib.Core.List.{List, [], _∷_, _++_, reverse}
 use mathlib.Core.Path.{_≡_}
 use mathlib.Core.Logic.{_↔_}
 use Rattle.endpoints.specs.Values.{Outcome}
-use Rattle.endpoints.specs.StudyRecords.{Baseline, StudyRecord, baseline, visit, therapy, death, fieldsPass, allPass}
+use Rattle.endpoints.specs.StudyRecords.{Baseline, StudyRecord, baseline, fieldsPass, allPass, fromBaseline}
 use Rattle.endpoints.specs.Lawful.{Past, lawfulBehind, lawful}
 use Rattle.endpoints.specs.Settled.{outcome}
 
@@ -43,8 +43,4 @@ pub record EveryMarkExactInOrder : Type 0 where
 
 -- the list opens with a baseline, and its marks are exact
 abbrev pub MarksExactOn : List StudyRecord → Type 0
-MarksExactOn [] = ⊥
-MarksExactOn (baseline b ∷ rs) = MarksExactInOrder b rs
-MarksExactOn (visit d v ∷ rs) = ⊥
-MarksExactOn (therapy d ∷ rs) = ⊥
-MarksExactOn (death d ∷ rs) = ⊥
+MarksExactOn = fromBaseline ⊥ MarksExactInOrder

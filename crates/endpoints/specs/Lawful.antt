@@ -12,7 +12,7 @@ use Rattle.records.specs.Form.{statusNumber}
 use Rattle.records.specs.Refusals.{mostTargets}
 use Rattle.criteria.specs.Inputs.{Visit}
 use Rattle.endpoints.specs.Values.{Day, none, on, isRecorded, _orElse_}
-use Rattle.endpoints.specs.StudyRecords.{Baseline, StudyRecord, baseline, visit, therapy, death, dayOf}
+use Rattle.endpoints.specs.StudyRecords.{Baseline, StudyRecord, baseline, visit, therapy, death, dayOf, fromBaseline}
 
 abbrev pub Past : Type 0
 Past = List StudyRecord
@@ -59,8 +59,4 @@ lawfulBehind b (r ∷ p) = both (lawfulBehind b p) (both (not (died p)) (placed 
 
 -- lawful, a term of document 01: a list in the order recorded that opens with a baseline
 abbrev pub lawful : List StudyRecord → Bool
-lawful [] = false
-lawful (baseline b ∷ rs) = lawfulBehind b (reverse rs)
-lawful (visit d v ∷ rs) = false
-lawful (therapy d ∷ rs) = false
-lawful (death d ∷ rs) = false
+lawful = fromBaseline false (λ (b : Baseline) (rs : List StudyRecord). lawfulBehind b (reverse rs))

@@ -12,7 +12,8 @@ use Rattle.records.specs.Form.{dateOf, Five}
 use Rattle.records.specs.Refusals.{refusalOf}
 use Rattle.endpoints.specs.Values.{exists}
 use Rattle.endpoints.specs.StudyRecords.{Baseline, StudyRecord, dayOf, fieldsPass, onStudyDay, onStudyDays}
-use Rattle.endpoints.specs.Lawful.{Past, latestDay, lawfulBehind, lawful}
+use Rattle.endpoints.specs.Lawful.{Past, latestDay, deathDay, lawfulBehind, lawful}
+use Rattle.endpoints.specs.Course.{Course, course, latestIn, deathIn}
 use Rattle.endpoints.specs.Best.{isResponse, best, duration}
 use Rattle.endpoints.specs.Lasting.{MarksExactOn}
 use Rattle.endpoints.specs.Adding.{isBaseline, tooEarly, refusalBehind, refusalOfOpening, refusalOfAdding, Call, accepted}
@@ -20,8 +21,11 @@ use Rattle.endpoints.specs.Adding.{isBaseline, tooEarly, refusalBehind, 
 pub record ListLaws : Type 0 where
   -- in a lawful list the latest day is that of the last record
   pub latestIsLast : (b : Baseline) (p : Past) (r : StudyRecord) → lawfulBehind b (r ∷ p) ≡ true → latestDay (r ∷ p) ≡ dayOf r
+  -- the latest day and the death in a course are those of its records
+  pub latestInCourse : (b : Baseline) (p : Past) → latestIn (course b p) ≡ latestDay p
+  pub deathInCourse : (b : Baseline) (p : Past) → deathIn (course b p) ≡ deathDay p
   -- duration exists exactly when best is CR or PR
-  pub durationExists : (b : Baseline) (p : Past) → exists (duration b p) ≡ isResponse (best b p)
+  pub durationExists : (c : Course) → exists (duration c) ≡ isResponse (best c)
 
 pub record AddingLaws : Type 0 where
   -- none of 8 to 11 meets a record exactly when the list with it is lawful too

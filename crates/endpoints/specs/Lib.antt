@@ -1,7 +1,7 @@
 pub mod Values
 pub mod StudyRecords
 pub mod Lawful
-pub mod Visits
+pub mod Course
 pub mod Lines
 pub mod Pfs
 pub mod Best

@@ -4,11 +4,11 @@ use Prim.Native.Nat.{ℕ}
 use mathlib.Core.List.{List, [], _∷_, _++_, reverse}
 use Rattle.criteria.specs.Words.{Word, statusWord}
 use Rattle.criteria.specs.Inputs.{Visit}
-use Rattle.criteria.specs.Change.{Tenths}
-use Rattle.criteria.specs.Visits.{visitTarget, visitOverall, visitChange}
-use Rattle.endpoints.specs.StudyRecords.{Baseline, StudyRecord, baseline, visit, therapy, death, disease}
+use Rattle.criteria.specs.Change.{Tenths, changeOf}
+use Rattle.criteria.specs.Visits.{visitTarget}
+use Rattle.endpoints.specs.StudyRecords.{Baseline, StudyRecord, baseline, visit, therapy, death, disease, fromBaseline}
 use Rattle.endpoints.specs.Lawful.{Past}
-use Rattle.endpoints.specs.Visits.{visitsOf}
+use Rattle.endpoints.specs.Course.{visitsOf, answerAt}
 
 -- study day, target, non-target, overall, change
 pub record VisitLine : Type 0 where
@@ -25,8 +25,8 @@ lineOf b p d v =
       day = d;
       target = visitTarget (disease b) (visitsOf p) v;
       nontarget = statusWord (v .status);
-      overall = visitOverall (disease b) (visitsOf p) v;
-      change = visitChange (disease b) v;
+      overall = answerAt b p v;
+      change = changeOf (disease b) v;
     }
 
 -- of one record after those before it: therapy and death print no line of their own
@@ -43,8 +43,4 @@ visitLines b (r ∷ p) = visitLines b p ++ linesOf b p r
 
 -- the lines of the visits of accepted records in the order recorded, baseline first
 abbrev pub linesInOrder : List StudyRecord → List VisitLine
-linesInOrder [] = []
-linesInOrder (baseline b ∷ rs) = visitLines b (reverse rs)
-linesInOrder (visit d v ∷ rs) = []
-linesInOrder (therapy d ∷ rs) = []
-linesInOrder (death d ∷ rs) = []
+linesInOrder = fromBaseline [] (λ (b : Baseline) (rs : List StudyRecord). visitLines b (reverse rs))

@@ -7,9 +7,7 @@ use lib.Dec.{leb, ltb}
 use Rattle.laws.specs.Choice.{pick}
 use Rattle.criteria.specs.Overall.{evaluable}
 use Rattle.endpoints.specs.Values.{Day, none, on, isRecorded, orDay1, Pfs, event, censored}
-use Rattle.endpoints.specs.StudyRecords.{Baseline}
-use Rattle.endpoints.specs.Lawful.{Past, deathDay}
-use Rattle.endpoints.specs.Visits.{Judged, judged, firstPD, progression}
+use Rattle.endpoints.specs.Course.{Judged, Course, deathIn, visitsIn, firstPD, progression}
 
 -- the visits recorded before the event: before progression where there is one, and else all, since nothing is recorded after a death
 abbrev pub beforeEvent : List Judged → List Judged
@@ -48,5 +46,5 @@ pfsOf none (on d) v none = pick (leb (d - 1) earlyDeath) (event d) (censored 1)
 pfsOf none (on d) v (on e) = eventUnlessMissed d v (on e)
 pfsOf none none v evaluable = censored (orDay1 evaluable)
 
-unfoldable pub pfs : Baseline → Past → Pfs
-pfs b p = pfsOf (progression b p) (deathDay p) (lastVisit (beforeEvent (judged b p))) (lastEvaluable (beforeEvent (judged b p)))
+unfoldable pub pfs : Course → Pfs
+pfs c = pfsOf (progression c) (deathIn c) (lastVisit (beforeEvent (visitsIn c))) (lastEvaluable (beforeEvent (visitsIn c)))

@@ -7,8 +7,8 @@ use Rattle.laws.specs.Choice.{either, pick}
 use Rattle.criteria.specs.Words.{Word}
 use Rattle.endpoints.specs.Values.{isRecorded, Duration, exists, Outcome}
 use Rattle.endpoints.specs.StudyRecords.{Baseline}
-use Rattle.endpoints.specs.Lawful.{Past, latestDay, died}
-use Rattle.endpoints.specs.Visits.{therapyRecorded, progression}
+use Rattle.endpoints.specs.Lawful.{Past}
+use Rattle.endpoints.specs.Course.{Course, course, latestIn, deathIn, therapyIn, progression}
 use Rattle.endpoints.specs.Pfs.{earlyDeath, pfs}
 use Rattle.endpoints.specs.Best.{isCR, best, duration}
 
@@ -29,23 +29,26 @@ bestSettledBy progressed therapyRecorded dead assessed best =
 unfoldable pub durationSettledBy : Duration → Bool → Bool → Bool
 durationSettledBy duration pfsSettled bestSettled = pick (exists duration) pfsSettled bestSettled
 
-unfoldable pub pfsSettled : Baseline → Past → Bool
-pfsSettled b p = pfsSettledBy (b .assessed) (isRecorded (progression b p)) (died p) (latestDay p)
+unfoldable pub pfsSettled : Bool → Course → Bool
+pfsSettled assessed c = pfsSettledBy assessed (isRecorded (progression c)) (isRecorded (deathIn c)) (latestIn c)
 
-unfoldable pub bestSettled : Baseline → Past → Bool
-bestSettled b p = bestSettledBy (isRecorded (progression b p)) (therapyRecorded p) (died p) (b .assessed) (best b p)
+unfoldable pub bestSettled : Bool → Course → Bool
+bestSettled assessed c = bestSettledBy (isRecorded (progression c)) (therapyIn c) (isRecorded (deathIn c)) assessed (best c)
 
-unfoldable pub durationSettled : Baseline → Past → Bool
-durationSettled b p = durationSettledBy (duration b p) (pfsSettled b p) (bestSettled b p)
+unfoldable pub durationSettled : Bool → Course → Bool
+durationSettled assessed c = durationSettledBy (duration c) (pfsSettled assessed c) (bestSettled assessed c)
 
--- the outcome with its marks
-abbrev pub outcome : Baseline → Past → Outcome
-outcome b p =
+-- the outcome with its marks, from whether the baseline was assessed and the course
+abbrev pub outcomeFrom : Bool → Course → Outcome
+outcomeFrom assessed c =
     record {
-      pfs = pfs b p;
-      best = best b p;
-      duration = duration b p;
-      pfsSettled = pfsSettled b p;
-      bestSettled = bestSettled b p;
-      durationSettled = durationSettled b p;
+      pfs = pfs c;
+      best = best c;
+      duration = duration c;
+      pfsSettled = pfsSettled assessed c;
+      bestSettled = bestSettled assessed c;
+      durationSettled = durationSettled assessed c;
     }
+
+abbrev pub outcome : Baseline → Past → Outcome
+outcome b p = outcomeFrom (b .assessed) (course b p)

@@ -18,7 +18,7 @@ use Rattle.records.specs.declared.Record.{Record}
 use Rattle.records.specs.Form.{dateOf}
 use Rattle.records.specs.Refusals.{mostTargets, outsideLimits, notZero}
 use Rattle.criteria.specs.declared.BaselineDisease.{BaselineDisease}
-use Rattle.criteria.specs.Inputs.{Visit, diseaseOf}
+use Rattle.criteria.specs.Inputs.{Visit, visitOf, diseaseOf}
 
 pub record Baseline : Type 0 where
   pub assessed : Bool
@@ -76,13 +76,20 @@ studyDay randomisation d = studyDayOf d randomisation .day
 abbrev pub entryOnStudyDay : Date → Entry → List Bool → List ℕ → StudyRecord
 entryOnStudyDay randomisation (E.Baseline b) marks sizes =
     baseline (record { assessed = b .assessed; nontarget = b .nontarget; count = b .count; nodes = marks; sizes = sizes })
-entryOnStudyDay randomisation (E.Visit v) marks sizes =
-    visit (studyDay randomisation (v .date)) (record { status = v .status; newLesion = v .newlesion; measured = marks; sizes = sizes })
+entryOnStudyDay randomisation (E.Visit v) marks sizes = visit (studyDay randomisation (v .date)) (visitOf v marks sizes)
 entryOnStudyDay randomisation (E.Therapy d) marks sizes = therapy (studyDay randomisation d)
 entryOnStudyDay randomisation (E.Death d) marks sizes = death (studyDay randomisation d)
 
 abbrev pub onStudyDay : Date → Record → StudyRecord
 onStudyDay randomisation r = entryOnStudyDay randomisation (r .entry) (r .marks) (r .sizes)
+
+-- what is said of a baseline and the records behind it, of a list of records in the order recorded; `otherwise` where it does not open with a baseline
+abbrev pub fromBaseline {ℓ} : {A : Type ℓ} → A → (Baseline → List StudyRecord → A) → List StudyRecord → A
+fromBaseline otherwise f [] = otherwise
+fromBaseline otherwise f (baseline b ∷ rs) = f b rs
+fromBaseline otherwise f (visit d v ∷ rs) = otherwise
+fromBaseline otherwise f (therapy d ∷ rs) = otherwise
+fromBaseline otherwise f (death d ∷ rs) = otherwise
 
 -- a list of records, in the order recorded: the date of the first is the randomisation date
 abbrev pub onStudyDays : List Record → List StudyRecord

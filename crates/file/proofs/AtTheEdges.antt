@@ -6,9 +6,10 @@ use Rattle.dates.specs.Answers.{studyDayOf}
 use Rattle.parts.specs.Parts.{badLength}
 use Rattle.criteria.specs.Sums.{measuredSum, baselineSum, allMeasured}
 use Rattle.criteria.specs.Targets.{allGone, grown, shrunk, targetAnswer}
-use Rattle.criteria.specs.Nadir.{nadirOf}
-use Rattle.criteria.specs.Overall.{overallAnswer}
-use Rattle.endpoints.specs.Visits.{judge}
+use Rattle.criteria.specs.Nadir.{afterVisit}
+use Rattle.criteria.specs.Overall.{overallBy}
+use Rattle.criteria.specs.Visits.{overallAnswer}
+use Rattle.endpoints.specs.Course.{answerAt}
 use Rattle.endpoints.specs.Pfs.{pfs}
 use Rattle.endpoints.specs.Best.{best, duration}
 use Rattle.endpoints.specs.Settled.{pfsSettledBy, bestSettledBy, durationSettledBy}
@@ -24,7 +25,7 @@ unfolding verdictOf badLength
 empty-file = record { nothing = refl }
 
 pub late-at-the-edges : LateAtTheEdges
-unfolding leapYear daysInMonth dateExists daysOfYears daysOfMonths dayNumber studyDayOf measuredSum baselineSum allMeasured allGone grown shrunk targetAnswer nadirOf overallAnswer judge pfs best duration pfsSettledBy bestSettledBy durationSettledBy enrolmentInRange followUpInRange inRange blank outcomeOf startsLate verdictHeld
+unfolding leapYear daysInMonth dateExists daysOfYears daysOfMonths dayNumber studyDayOf measuredSum baselineSum allMeasured allGone grown shrunk targetAnswer afterVisit overallBy overallAnswer answerAt pfs best duration pfsSettledBy bestSettledBy durationSettledBy enrolmentInRange followUpInRange inRange blank outcomeOf startsLate verdictHeld
 late-at-the-edges =
     record {
       before = refl;

@@ -20,14 +20,15 @@ use Rattle.codec.proofs.Found.{found-five}
 use Rattle.endpoints.specs.Values.{Outcome, dayValue}
 use Rattle.endpoints.specs.StudyRecords.{Baseline, baseline, fieldsPass, entryOnStudyDay, onStudyDays}
 use Rattle.endpoints.specs.Lawful.{Past}
-use Rattle.endpoints.specs.Visits.{counting}
+use Rattle.endpoints.specs.Course.{course, counting}
 use Rattle.endpoints.specs.Best.{firstResponse}
 use Rattle.endpoints.specs.Lines.{VisitLine, linesOf, visitLines, linesInOrder}
 use Rattle.endpoints.specs.Adding.{notBaseline, refusalOfOpening, refusalOfAdding}
 use Rattle.endpoints.proofs.Refusals.{own-passed}
 use Rattle.endpoints.proofs.Calls.{none-of-both}
 use Rattle.held.specs.declared.Subject.{Subject}
-use Rattle.held.proofs.Follows.{day-of-maybe, countedOf, summary}
+use Rattle.held.specs.Summary.{countedOf, summary}
+use Rattle.held.proofs.Follows.{day-of-maybe}
 use Rattle.opening.specs.declared.OpenAnswer.{OpenAnswer}
 use Rattle.opening.specs.declared.OpenAnswer.the-variants as N
 use Rattle.opening.specs.Opening.{openNumber, subjectOf, openedSubject, Opened, OpensBytes}
@@ -172,15 +173,15 @@ module _ {rs : List Record} {s : Subject} (t : Taken rs s) (last : ℕ) where
   held = summary (t .entry .date) b p
 
   abbrev verdictIn : Subject → Verdict
-  verdictIn u = pick (startsLate (durationHeld u) (dayValue (u .followup .counted .first)) (pfsHeld u)) (refused 14 last) (accepted (outcomeOf u))
+  verdictIn u = pick (startsLate (durationHeld u) (dayValue (u .followup .counted .firstresponse)) (pfsHeld u)) (refused 14 last) (accepted (outcomeOf u))
 
   inside : verdictHeld s last ≡ verdictIn s
   unfolding verdictHeld
   inside = rw (t .held .inside)
 
-  first-held : dayValue (held .followup .counted .first) ≡ firstResponse (counting b p)
+  first-held : dayValue (held .followup .counted .firstresponse) ≡ firstResponse (counting (course b p))
   unfolding summary countedOf
-  first-held = day-of-maybe (firstResponse (counting b p))
+  first-held = day-of-maybe (firstResponse (counting (course b p)))
 
   verdict-held : verdictIn held ≡ verdictOn (onStudyDays (first (t .entry) (t .marks) (t .sizes) ∷ t .later)) last
   verdict-held =
@@ -192,7 +193,7 @@ module _ {rs : List Record} {s : Subject} (t : Taken rs s) (last : ℕ) where
   verdict-taken = ap verdictIn (t .held .same) ∙ verdict-held ∙ ap (λ (l : List Record). verdictOn (onStudyDays l) last) (sym (t .opens))
 
   pub told-verdict : {q : OutcomeAnswer} → Told s q → EndsBy (verdictOn (onStudyDays rs) last) last q
-  told-verdict {q} w = rw (← verdict-taken) (go (startsLate (durationHeld s) (dayValue (s .followup .counted .first)) (pfsHeld s)))
+  told-verdict {q} w = rw (← verdict-taken) (go (startsLate (durationHeld s) (dayValue (s .followup .counted .firstresponse)) (pfsHeld s)))
     where
       go : (late : Bool) → EndsBy (pick late (refused 14 last) (accepted (outcomeOf s))) last q
       go true = inl refl

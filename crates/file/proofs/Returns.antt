@@ -66,7 +66,7 @@ module _ (s : Subject) (last : ℕ) where
       record { answer = e ∙ rw outside }
 
   module _ (o : OutcomeAnswer) (r : OutcomeResult) (w : Told s o) (q : o ≡ R.Read r) (x : Bool)
-      (e : x ≡ startsLate (durationValues (r .duration)) (dayValue (s .followup .counted .first)) (pfsValues (r .pfs))) where
+      (e : x ≡ startsLate (durationValues (r .duration)) (dayValue (s .followup .counted .firstresponse)) (pfsValues (r .pfs))) where
     inside : inRange s ≡ true
     inside = sym (read-in-range s) ∙ ap isRead (sym (w .answer)) ∙ rw q
 
@@ -77,9 +77,9 @@ module _ (s : Subject) (last : ℕ) where
         let whole : outcome (outcomeValues r) ≡ outcome (outcomeOf s) = told ∙ rw inside in
         ap (outcomeIn (outcomeOf s)) whole
 
-    late-held : x ≡ startsLate (durationHeld s) (dayValue (s .followup .counted .first)) (pfsHeld s)
+    late-held : x ≡ startsLate (durationHeld s) (dayValue (s .followup .counted .firstresponse)) (pfsHeld s)
     unfolding outcomeOf
-    late-held = e ∙ (λ i. startsLate (read-outcome i .duration) (dayValue (s .followup .counted .first)) (read-outcome i .pfs))
+    late-held = e ∙ (λ i. startsLate (read-outcome i .duration) (dayValue (s .followup .counted .firstresponse)) (read-outcome i .pfs))
 
     pub ends-late : (a : FileAnswer) → x ≡ true → fileValues a ≡ stopped 14 last → Ends s last a
     unfolding verdictHeld

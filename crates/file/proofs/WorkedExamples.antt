@@ -10,10 +10,11 @@ use Rattle.codec.specs.Reading.{statusFrom, baselineIn, visitIn, spareIn, rawIn
 use Rattle.parts.specs.Parts.{badLength}
 use Rattle.criteria.specs.Sums.{measuredSum, baselineSum, allMeasured}
 use Rattle.criteria.specs.Targets.{allGone, grown, shrunk, targetAnswer}
-use Rattle.criteria.specs.Nadir.{nadirOf}
-use Rattle.criteria.specs.Overall.{overallAnswer}
+use Rattle.criteria.specs.Nadir.{afterVisit}
+use Rattle.criteria.specs.Overall.{overallBy}
+use Rattle.criteria.specs.Visits.{overallAnswer}
 use Rattle.endpoints.specs.Lawful.{measuredBeyond, fitsBy, fits}
-use Rattle.endpoints.specs.Visits.{judge}
+use Rattle.endpoints.specs.Course.{answerAt}
 use Rattle.endpoints.specs.Pfs.{gapLimit, earlyDeath, pfs}
 use Rattle.endpoints.specs.Best.{best, duration}
 use Rattle.endpoints.specs.Settled.{settledFrom, pfsSettledBy, bestSettledBy, durationSettledBy, pfsSettled, bestSettled, durationSettled}
@@ -22,7 +23,7 @@ use Rattle.file.specs.File.{startsLate, verdictOf}
 use Rattle.file.specs.Examples.{WholeFiles}
 
 pub whole-files : WholeFiles
-unfolding leapYear daysInMonth dateExists daysOfYears daysOfMonths dayNumber studyDayOf wrongSize largeMeasured setBeyond sizedUnmeasured withoutDisease outsideLimits notZero refusalOfRead bytesNumber statusFrom baselineIn visitIn spareIn rawIn refusalOfNumber refusalOfBytes recordOfBytes badLength measuredSum baselineSum allMeasured allGone grown shrunk targetAnswer nadirOf overallAnswer measuredBeyond fitsBy fits judge gapLimit earlyDeath pfs best duration settledFrom pfsSettledBy bestSettledBy durationSettledBy pfsSettled bestSettled durationSettled refusalBehind refusalOfOpening refusalOfAdding startsLate verdictOf
+unfolding leapYear daysInMonth dateExists daysOfYears daysOfMonths dayNumber studyDayOf wrongSize largeMeasured setBeyond sizedUnmeasured withoutDisease outsideLimits notZero refusalOfRead bytesNumber statusFrom baselineIn visitIn spareIn rawIn refusalOfNumber refusalOfBytes recordOfBytes badLength measuredSum baselineSum allMeasured allGone grown shrunk targetAnswer afterVisit overallBy overallAnswer measuredBeyond fitsBy fits answerAt gapLimit earlyDeath pfs best duration settledFrom pfsSettledBy bestSettledBy durationSettledBy pfsSettled bestSettled durationSettled refusalBehind refusalOfOpening refusalOfAdding startsLate verdictOf
 whole-files =
     record {
       printed = refl;

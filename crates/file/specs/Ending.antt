@@ -14,7 +14,7 @@ use Rattle.file.specs.File.{Verdict, refused, accepted, startsLate, file
 unfoldable pub verdictHeld : Subject → ℕ → Verdict
 verdictHeld s last =
     pick (inRange s)
-    (pick (startsLate (durationHeld s) (dayValue (s .followup .counted .first)) (pfsHeld s)) (refused 14 last) (accepted (outcomeOf s)))
+    (pick (startsLate (durationHeld s) (dayValue (s .followup .counted .firstresponse)) (pfsHeld s)) (refused 14 last) (accepted (outcomeOf s)))
     (refused 12 last)
 
 pub record Ends (s : Subject) (last : ℕ) (a : FileAnswer) : Type 0 where

@@ -11,9 +11,9 @@ use Rattle.records.specs.declared.Record.{Record}
 use Rattle.codec.specs.Reading.{recordOfBytes, afterReading}
 use Rattle.parts.specs.Parts.{badLength, partsOf}
 use Rattle.endpoints.specs.Values.{Day, none, on, Pfs, Duration, exists, Outcome}
-use Rattle.endpoints.specs.StudyRecords.{Baseline, StudyRecord, baseline, visit, therapy, death, onStudyDays}
+use Rattle.endpoints.specs.StudyRecords.{Baseline, StudyRecord, onStudyDays, fromBaseline}
 use Rattle.endpoints.specs.Lawful.{Past}
-use Rattle.endpoints.specs.Visits.{counting}
+use Rattle.endpoints.specs.Course.{Course, course, counting}
 use Rattle.endpoints.specs.Pfs.{pfs}
 use Rattle.endpoints.specs.Best.{firstResponse, duration}
 use Rattle.endpoints.specs.Lasting.{outcomeInOrder}
@@ -40,16 +40,16 @@ isAfter (on first) d = ltb d first
 unfoldable pub startsLate : Duration → Day → Pfs → Bool
 startsLate duration first pfs = both (exists duration) (isAfter first (pfs .day))
 
-abbrev pub responseStartsLate : Baseline → Past → Bool
-responseStartsLate b p = startsLate (duration b p) (firstResponse (counting b p)) (pfs b p)
+abbrev pub responseStartsLate : Course → Bool
+responseStartsLate c = startsLate (duration c) (firstResponse (counting c)) (pfs c)
 
 -- behind the last record: 14 with its index, or the outcome; every list of accepted records opens with a baseline, and for any other the number is 7
 abbrev pub verdictOn : List StudyRecord → ℕ → Verdict
-verdictOn [] last = refused 7 last
-verdictOn (baseline b ∷ rs) last = pick (responseStartsLate b (reverse rs)) (refused 14 last) (accepted (outcomeInOrder b rs))
-verdictOn (visit d v ∷ rs) last = refused 7 last
-verdictOn (therapy d ∷ rs) last = refused 7 last
-verdictOn (death d ∷ rs) last = refused 7 last
+verdictOn rs last =
+    fromBaseline (refused 7 last)
+    (λ (b : Baseline) (rs : List StudyRecord).
+    pick (responseStartsLate (course b (reverse rs))) (refused 14 last) (accepted (outcomeInOrder b rs)))
+    rs
 
 -- the records from index k on, behind those accepted: the first bad one stops it, with its index
 abbrev pub verdictFrom : List Record → ℕ → List (List ℕ) → Verdict

@@ -36,7 +36,7 @@ pub fn end_file(s: Subject, last: usize) -> FileAnswer
 {
     let followup = s.followup;
     let counted = followup.counted;
-    let first = counted.first;
+    let first = counted.firstresponse;
     match outcome::read_outcome(s) {
         OutcomeAnswer::OutOfRange => refused(12, last),
         OutcomeAnswer::Read(o) => {

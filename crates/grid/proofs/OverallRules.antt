@@ -13,7 +13,7 @@ use Rattle.laws.proofs.Tests.{both-true}
 use Rattle.records.specs.declared.Status.{Status}
 use Rattle.records.specs.declared.Status.the-variants as S
 use Rattle.criteria.specs.Words.{PD, NE, codeOf, targetWord, statusWord, overallWord}
-use Rattle.criteria.specs.Overall.{rows, columns, rowOf, columnOf, cell, isPD, overallAnswer}
+use Rattle.criteria.specs.Overall.{rows, columns, rowOf, columnOf, cell, isPD, overallBy}
 use Rattle.criteria.specs.declared.Target.{Target}
 use Rattle.criteria.specs.declared.Target.the-variants as T
 use Rattle.criteria.specs.declared.Overall.{Overall}
@@ -51,28 +51,28 @@ no-column S.PD = refl
 no-column S.NE = refl
 
 module _ (assessed newLesion : Bool) (t : Target) (s : Status) where
-  pub missing : not assessed ≡ true → NE ≡ overallAnswer assessed newLesion (targetWord t) (statusWord s)
-  unfolding overallAnswer
+  pub missing : not assessed ≡ true → NE ≡ overallBy assessed newLesion (targetWord t) (statusWord s)
+  unfolding overallBy
   missing h = rw h
 
   module _ (h : not assessed ≡ false) where
-    pub new-lesion : newLesion ≡ true → PD ≡ overallAnswer assessed newLesion (targetWord t) (statusWord s)
-    unfolding overallAnswer
+    pub new-lesion : newLesion ≡ true → PD ≡ overallBy assessed newLesion (targetWord t) (statusWord s)
+    unfolding overallBy
     new-lesion n = rw (h, n)
 
     module _ (n : newLesion ≡ false) (r : ℕ) (re : r ≡ rowOf (targetWord t)) where
-      pub target-pd : rows ≤ r → PD ≡ overallAnswer assessed newLesion (targetWord t) (statusWord s)
-      unfolding overallAnswer
+      pub target-pd : rows ≤ r → PD ≡ overallBy assessed newLesion (targetWord t) (statusWord s)
+      unfolding overallBy
       target-pd l = rw (h, n, ← no-row t, ← re, le-leb rows r l)
 
       module _ (l : r < rows) (c : ℕ) (ce : c ≡ columnOf (statusWord s)) where
-        pub status-pd : columns ≤ c → PD ≡ overallAnswer assessed newLesion (targetWord t) (statusWord s)
-        unfolding overallAnswer
+        pub status-pd : columns ≤ c → PD ≡ overallBy assessed newLesion (targetWord t) (statusWord s)
+        unfolding overallBy
         status-pd k = rw (h, n, ← no-row t, ← no-column s, ← re, ← ce, lt-leb rows r l, le-leb columns c k)
 
         pub in-grid : c < columns → (k : ℕ) → k ≡ codeOf (cell r c) → (o : Overall) → codeOf (overallWord o) ≡ k →
-            overallWord o ≡ overallAnswer assessed newLesion (targetWord t) (statusWord s)
-        unfolding overallAnswer
+            overallWord o ≡ overallBy assessed newLesion (targetWord t) (statusWord s)
+        unfolding overallBy
         in-grid q k ke o e =
             rw (h, n, ← no-row t, ← no-column s, ← re, ← ce, lt-leb rows r l, lt-leb columns c q)
             (same-code (overallWord o) (cell r c) (e ∙ ke))

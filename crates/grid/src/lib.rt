@@ -5,7 +5,7 @@ use records::Status;
 ghost use mathlib.Core.Path.{_≡_};
 ghost use Prim.Native.Nat.{_<_, _≤_};
 ghost use Rattle.criteria.specs.Words.{PD, codeOf, targetWord, statusWord, overallWord};
-ghost use Rattle.criteria.specs.Overall.{rows, columns, rowOf, columnOf, cell, overallAnswer};
+ghost use Rattle.criteria.specs.Overall.{rows, columns, rowOf, columnOf, cell, overallBy};
 
 // The codes of answers in the grid; PD, which no cell has, follows them.
 const CR: u8 = 0;
@@ -77,7 +77,7 @@ fn answer(code: u8) -> Overall
 }
 
 pub fn overall_answer(assessed: bool, newlesion: bool, target: Target, status: Status) -> Overall
-    ensures { λ r. ⌜ overallWord r ≡ overallAnswer assessed newlesion (targetWord target) (statusWord status) ⌝ }
+    ensures { λ r. ⌜ overallWord r ≡ overallBy assessed newlesion (targetWord target) (statusWord status) ⌝ }
 {
     if !assessed {
         return Overall::NE;

@@ -9,64 +9,30 @@ use lib.Dec.{leb}
 use borrow.Author.Tests.{le-leb, leb-true}
 use Rattle.laws.specs.Choice.{both, either, pick}
 use Rattle.laws.proofs.Tests.{either-with-false}
-use Rattle.dates.specs.declared.Date.{Date}
-use Rattle.dates.specs.declared.StudyDay.{StudyDay}
 use Rattle.criteria.specs.Words.{Word, CR, PR, SD, PD, NE, NA, NN}
-use Rattle.criteria.specs.Nadir.{leftBy}
 use Rattle.criteria.specs.Overall.{isPD, evaluable}
-use Rattle.endpoints.specs.declared.MaybeDay.{MaybeDay}
 use Rattle.endpoints.specs.declared.MaybeDay.the-variants as M
 use Rattle.endpoints.specs.Values.{Day, none, on, isRecorded, _orElse_, dayValue, bestWord}
-use Rattle.endpoints.specs.StudyRecords.{Baseline, disease}
-use Rattle.endpoints.specs.Lawful.{Past, latestDay, deathDay}
-use Rattle.endpoints.specs.Visits.{visitsOf, therapyRecorded, Judged, judged, firstPD, counting}
-use Rattle.endpoints.specs.Pfs.{beforeEvent, lastVisit, lastEvaluable}
+use Rattle.endpoints.specs.Course.{Judged, firstPD}
 use Rattle.endpoints.specs.Best.{isCR, isResponse, isStableOrBetter, mayStandBetween, stableFrom, confirmDays, farApart, completeBefore, confirmedCR, responseBefore, confirmedResponse, stable, bestOf, firstResponse}
-use Rattle.held.specs.declared.EventDays.{EventDays}
-use Rattle.held.specs.declared.CountingVisits.{CountingVisits}
-use Rattle.held.specs.declared.Subject.{Subject}
-use Rattle.held.specs.Visits.{firstOf, farAfter, eventAfter, bestFrom, betterOf, countedAfter}
+use Rattle.held.specs.Days.{at, maybe, firstOf, farAfter}
+use Rattle.held.specs.Visits.{eventAfter, bestFrom, betterOf, countedAfter}
+use Rattle.held.specs.Summary.{crStart, eventOf, countedOf}
 use Rattle.endpoints.proofs.PfsChanges.{Until}
 use Rattle.held.proofs.Ordered.{Falling}
-
--- a day as it is held
-abbrev pub at : ℕ → StudyDay
-at d = record { 0 = d }
-
-abbrev pub maybe : Day → MaybeDay
-maybe none = M.Absent
-maybe (on d) = M.On (at d)
 
 pub day-of-maybe : (x : Day) → dayValue (maybe x) ≡ x
 day-of-maybe none = refl
 day-of-maybe (on d) = refl
 
--- the first CR since which every visit was CR or NE
-abbrev crStart : List Judged → Day
-crStart [] = none
-crStart (j ∷ js) = pick (isCR (j .answer)) (crStart js orElse on (j .day)) (pick (mayStandBetween (j .answer)) (crStart js) none)
-
--- what is held after the visits of a list
-unfoldable pub eventOf : List Judged → EventDays
-eventOf js =
-    record { progression = maybe (firstPD js); previous = at (lastVisit (beforeEvent js)); evaluable = maybe (lastEvaluable (beforeEvent js)) }
-
-unfoldable pub countedOf : List Judged → CountingVisits
-countedOf js =
-    record {
-      first = maybe (firstResponse js);
-      start = maybe (crStart js);
-      best = bestFrom (bestOf (confirmedCR js) (confirmedResponse js) (stable js) (isRecorded (firstPD js)));
-    }
-
 -- ---- the days of the event
 
-pub event-follows : (j : Judged) (js : List Judged) → eventAfter (eventOf js) (at (j .day)) (j .answer) ≡ eventOf (j ∷ js)
+pub event-follows : (j : Judged) (js : List Judged) → eventAfter (eventOf js) j ≡ eventOf (j ∷ js)
 unfolding eventAfter eventOf
 event-follows j js = go (firstPD js) refl (isPD (j .answer)) refl (evaluable (j .answer)) refl
   where
     go : (x : Day) → firstPD js ≡ x → (pd : Bool) → isPD (j .answer) ≡ pd → (ev : Bool) → evaluable (j .answer) ≡ ev →
-        eventAfter (eventOf js) (at (j .day)) (j .answer) ≡ eventOf (j ∷ js)
+        eventAfter (eventOf js) j ≡ eventOf (j ∷ js)
     go (on d) e pd f ev g = rw e
     go none e true f ev g = rw (e, f)
     go none e false f true g = rw (e, f, g)
@@ -189,7 +155,7 @@ best-of-held false false true pd = refl
 best-of-held false false false true = refl
 best-of-held false false false false = refl
 
-pub counted-follows : (j : Judged) (js : List Judged) → Falling js → countedAfter (countedOf js) (at (j .day)) (j .answer) ≡ countedOf (j ∷ js)
+pub counted-follows : (j : Judged) (js : List Judged) → Falling js → countedAfter (countedOf js) j ≡ countedOf (j ∷ js)
 unfolding countedAfter countedOf
 counted-follows j js s =
     let first = first-follows (j .day) (firstResponse js) (isResponse (j .answer)) in
@@ -209,22 +175,4 @@ counted-follows j js s =
     (bestOf (either (both (isCR (j .answer)) (complete i)) (confirmedCR js)) (either (both (isResponse (j .answer)) (response i)) (confirmedResponse js))
     (stable (j ∷ js)) (pd i)) in
     let best = shown ∙ follows in
-    λ i. record { first = first i; start = start i; best = best i }
-
--- ---- the subject
-
--- what is held after a baseline and the records behind it
-unfoldable pub summary : Date → Baseline → Past → Subject
-summary randomisation b p =
-    record {
-      enrolment = record { randomisation = randomisation; nontarget = b .nontarget; baseline = disease b };
-      followup =
-          record {
-            earlier = leftBy (disease b) (visitsOf p);
-            latest = at (latestDay p);
-            therapy = therapyRecorded p;
-            death = maybe (deathDay p);
-            event = eventOf (judged b p);
-            counted = countedOf (counting b p);
-          };
-    }
+    λ i. record { firstresponse = first i; crstart = start i; best = best i }

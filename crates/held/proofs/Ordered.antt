@@ -3,29 +3,33 @@
 use mathlib.Core.Path.{_≡_, sym}
 use mathlib.Core.Bool.{Bool, true, false}
 use mathlib.Core.List.{List, [], _∷_}
+use Prim.Native.Nat.{_≤_}
+use native.Mathlib.Omega.{arith}
 use Rattle.laws.specs.Choice.{pick}
 use Rattle.laws.proofs.Tests.{never}
 use Rattle.endpoints.specs.StudyRecords.{Baseline, StudyRecord, baseline, visit, therapy, death}
 use Rattle.endpoints.specs.Lawful.{Past, latestDay, lawfulBehind}
-use Rattle.endpoints.specs.Visits.{Judged, judge, countingClosed, counting}
-use Rattle.endpoints.proofs.Behind.{Next, next, rising}
+use Rattle.endpoints.specs.Course.{Judged, judge, course, latestIn, countingClosed, counting}
+use Rattle.endpoints.proofs.Behind.{Next, next, rising, latest-in}
 use Rattle.endpoints.proofs.PfsChanges.{Until, counting-until}
 
 abbrev pub Falling : List Judged → Type 0
 Falling [] = Unit {0}
 Falling (j ∷ js) = Until (j .day) js × Falling js
 
-pub counting-falls : (b : Baseline) (p : Past) → lawfulBehind b p ≡ true → Falling (counting b p)
-unfolding judge
+pub counting-falls : (b : Baseline) (p : Past) → lawfulBehind b p ≡ true → Falling (counting (course b p))
 counting-falls b [] l = tt
 counting-falls b (r ∷ p) l = go r (next b p r l) (counting-falls b p (next b p r l .before))
   where
-    go : (r : StudyRecord) → Next b p r → Falling (counting b p) → Falling (counting b (r ∷ p))
+    go : (r : StudyRecord) → Next b p r → Falling (counting (course b p)) → Falling (counting (course b (r ∷ p)))
     go (baseline x) n o = absurd (never (sym (n .place)))
-    go (visit d v) n o = one-more (countingClosed b p)
+    go (visit d v) n o = one-more (countingClosed (course b p))
       where
-        one-more : (x : Bool) → Falling (pick x (counting b p) (judge b p d v ∷ counting b p))
+        one-more : (x : Bool) → Falling (pick x (counting (course b p)) (judge b p d v ∷ counting (course b p)))
         one-more true = o
-        one-more false = (counting-until b d p (rising b (latestDay p) (visit d v) (n .place)), o)
+        one-more false =
+            let up = rising b (latestDay p) (visit d v) (n .place) in
+            let until : latestIn (course b p) ≤ d = omega (arith, latest-in b p) in
+            (counting-until d (course b p) until, o)
     go (therapy d) n o = o
     go (death d) n o = o

@@ -5,25 +5,26 @@ use mathlib.Core.Bool.{Bool, true, false}
 use Prim.Native.Nat.{ℕ, _+_, _≤_, _<_}
 use lib.Dec.{leb}
 use borrow.Author.Tests.{le-leb, lt-leb}
-use Rattle.laws.specs.Choice.{pick}
 use Rattle.dates.specs.Calendar.{lastDayNumber, dateExists}
 use Rattle.dates.specs.declared.StudyDay.{StudyDay}
 use Rattle.records.specs.Refusals.{mostTargets}
-use Rattle.criteria.specs.declared.Overall.{Overall}
 use Rattle.criteria.specs.declared.Overall.the-variants as O
-use Rattle.criteria.specs.Words.{Word, overallWord}
+use Rattle.criteria.specs.Words.{Word}
 use Rattle.endpoints.specs.declared.MaybeDay.{MaybeDay}
 use Rattle.endpoints.specs.declared.MaybeDay.the-variants as M
+use Rattle.endpoints.specs.declared.JudgedVisit.{JudgedVisit}
 use Rattle.endpoints.specs.declared.BestResponse.{BestResponse}
 use Rattle.endpoints.specs.declared.BestResponse.the-variants as B
 use Rattle.endpoints.specs.Values.{isRecorded, dayValue, bestWord}
-use Rattle.endpoints.specs.Best.{isCR, isResponse, mayStandBetween, confirmDays, stableFrom, bestOf}
+use Rattle.endpoints.specs.Course.{Judged, judgedValues}
+use Rattle.endpoints.specs.Best.{confirmDays, stableFrom, bestOf}
 use Rattle.held.specs.declared.EventDays.{EventDays}
 use Rattle.held.specs.declared.CountingVisits.{CountingVisits}
 use Rattle.held.specs.declared.Enrolment.{Enrolment}
 use Rattle.held.specs.declared.FollowUp.{FollowUp}
 use Rattle.held.specs.Range.{firstDay, largestSum, dayInRange, maybeInRange, eventInRange, countedInRange, enrolmentInRange, followUpInRange}
-use Rattle.held.specs.Visits.{firstOf, farAfter, evaluableOn, eventAfter, bestFrom, betterOf, shownBy, countedAfter}
+use Rattle.held.specs.Days.{firstOf, farAfter}
+use Rattle.held.specs.Visits.{evaluableOn, eventAfter, bestFrom, betterOf, shownBy, firstAfter, startAfter, countedAfter}
 
 -- ---- days that may be absent
 
@@ -48,7 +49,7 @@ day-from-one d h = rw (le-leb firstDay d h)
 pub recorded-in-range : (m : MaybeDay) (e : StudyDay) (x : Bool) → m ≡ M.On e → x ≡ dayInRange (e .0) → x ≡ maybeInRange m
 recorded-in-range m e x q h = h ∙ rw q
 
-module _ (e : EventDays) (a : Bool) (p : a ≡ dayInRange (e .previous .0)) where
+module _ (e : EventDays) (a : Bool) (p : a ≡ dayInRange (e .lastvisit .0)) where
   pub previous-outside : a ≡ false → a ≡ eventInRange e
   previous-outside h = h ∙ rw (← p, h)
 
@@ -56,7 +57,7 @@ module _ (e : EventDays) (a : Bool) (p : a ≡ dayInRange (e .previous .0)) wher
     pub progression-outside : b ≡ false → b ≡ eventInRange e
     progression-outside k = k ∙ rw (← p, h, ← q, k)
 
-    pub by-evaluable : (c : Bool) → b ≡ true → c ≡ maybeInRange (e .evaluable) → c ≡ eventInRange e
+    pub by-evaluable : (c : Bool) → b ≡ true → c ≡ maybeInRange (e .lastevaluable) → c ≡ eventInRange e
     by-evaluable c k r = rw (← p, h, ← q, k) r
 
 module _ (e : Enrolment) (a : Bool) (p : a ≡ dateExists (e .randomisation)) where
@@ -97,30 +98,32 @@ module _ (f : FollowUp) (n : f .earlier .nadir ≤ largestSum) (a : Bool) (p : a
 
 -- ---- one visit more
 
-module _ (e : EventDays) (d : StudyDay) (answer : Overall) (x : Bool) (p : x ≡ isRecorded (dayValue (e .progression))) where
-  pub progressed : x ≡ true → e ≡ eventAfter e d (overallWord answer)
+module _ (e : EventDays) (j : JudgedVisit) (x : Bool) (p : x ≡ isRecorded (dayValue (e .progression))) where
+  pub progressed : x ≡ true → e ≡ eventAfter e (judgedValues j)
   unfolding eventAfter
   progressed h = rw (← p, h)
 
   module _ (h : x ≡ false) where
-    pub progresses : answer ≡ O.PD → record { progression = M.On d; previous = e .previous; evaluable = e .evaluable } ≡ eventAfter e d (overallWord answer)
+    pub progresses : j .answer ≡ O.PD →
+        record { progression = M.On (j .day); lastvisit = e .lastvisit; lastevaluable = e .lastevaluable } ≡ eventAfter e (judgedValues j)
     unfolding eventAfter
     progresses q = rw (← p, h, q)
 
-    pub unevaluable : answer ≡ O.NE → record { progression = M.Absent; previous = d; evaluable = e .evaluable } ≡ eventAfter e d (overallWord answer)
+    pub unevaluable : j .answer ≡ O.NE →
+        record { progression = M.Absent; lastvisit = j .day; lastevaluable = e .lastevaluable } ≡ eventAfter e (judgedValues j)
     unfolding eventAfter
     unevaluable q = rw (← p, h, q)
 
-    module _ (r : EventDays) (v : r ≡ evaluableOn d) where
-      pub evaluable-cr : answer ≡ O.CR → r ≡ eventAfter e d (overallWord answer)
+    module _ (r : EventDays) (v : r ≡ evaluableOn (j .day)) where
+      pub evaluable-cr : j .answer ≡ O.CR → r ≡ eventAfter e (judgedValues j)
       unfolding eventAfter
       evaluable-cr q = v ∙ rw (← p, h, q)
 
-      pub evaluable-pr : answer ≡ O.PR → r ≡ eventAfter e d (overallWord answer)
+      pub evaluable-pr : j .answer ≡ O.PR → r ≡ eventAfter e (judgedValues j)
       unfolding eventAfter
       evaluable-pr q = v ∙ rw (← p, h, q)
 
-      pub evaluable-sd : answer ≡ O.SD → r ≡ eventAfter e d (overallWord answer)
+      pub evaluable-sd : j .answer ≡ O.SD → r ≡ eventAfter e (judgedValues j)
       unfolding eventAfter
       evaluable-sd q = v ∙ rw (← p, h, q)
 
@@ -136,32 +139,30 @@ best-there r w q = rw (← q) (go r)
     go B.PD = refl
     go B.NE = refl
 
-module _ (c : CountingVisits) (d : StudyDay) (answer : Overall) (r : BestResponse) where
-  module _ (y : Bool) (yq : y ≡ farAfter (c .first) (d .0)) where
-    pub shown-cr : (x : Bool) → answer ≡ O.CR → x ≡ farAfter (c .start) (d .0) → bestWord r ≡ bestOf x y (leb stableFrom (d .0)) false →
-        r ≡ bestFrom (shownBy c d (overallWord answer))
-    shown-cr x q xq h = best-there r (shownBy c d (overallWord answer)) (h ∙ rw (q, xq, yq))
+module _ (c : CountingVisits) (j : JudgedVisit) (r : BestResponse) where
+  module _ (y : Bool) (yq : y ≡ farAfter (c .firstresponse) (j .day .0)) where
+    pub shown-cr : (x : Bool) → j .answer ≡ O.CR → x ≡ farAfter (c .crstart) (j .day .0) → bestWord r ≡ bestOf x y (leb stableFrom (j .day .0)) false →
+        r ≡ bestFrom (shownBy c (judgedValues j))
+    shown-cr x q xq h = best-there r (shownBy c (judgedValues j)) (h ∙ rw (q, xq, yq))
 
-    pub shown-pr : answer ≡ O.PR → bestWord r ≡ bestOf false y (leb stableFrom (d .0)) false → r ≡ bestFrom (shownBy c d (overallWord answer))
-    shown-pr q h = best-there r (shownBy c d (overallWord answer)) (h ∙ rw (q, yq))
+    pub shown-pr : j .answer ≡ O.PR → bestWord r ≡ bestOf false y (leb stableFrom (j .day .0)) false → r ≡ bestFrom (shownBy c (judgedValues j))
+    shown-pr q h = best-there r (shownBy c (judgedValues j)) (h ∙ rw (q, yq))
 
-  pub shown-sd : answer ≡ O.SD → bestWord r ≡ bestOf false false (leb stableFrom (d .0)) false → r ≡ bestFrom (shownBy c d (overallWord answer))
-  shown-sd q h = best-there r (shownBy c d (overallWord answer)) (h ∙ rw q)
+  pub shown-sd : j .answer ≡ O.SD → bestWord r ≡ bestOf false false (leb stableFrom (j .day .0)) false → r ≡ bestFrom (shownBy c (judgedValues j))
+  shown-sd q h = best-there r (shownBy c (judgedValues j)) (h ∙ rw q)
 
-module _ (m r : MaybeDay) (d : StudyDay) (answer : Overall) (v : r ≡ firstOf m d) where
-  pub first-cr : answer ≡ O.CR → r ≡ pick (isResponse (overallWord answer)) (firstOf m d) m
+module _ (m r : MaybeDay) (j : JudgedVisit) (v : r ≡ firstOf m (j .day)) where
+  pub first-cr : j .answer ≡ O.CR → r ≡ firstAfter m (judgedValues j)
   first-cr q = v ∙ rw q
 
-  pub first-pr : answer ≡ O.PR → r ≡ pick (isResponse (overallWord answer)) (firstOf m d) m
+  pub first-pr : j .answer ≡ O.PR → r ≡ firstAfter m (judgedValues j)
   first-pr q = v ∙ rw q
 
-  pub start-cr : answer ≡ O.CR → r ≡ pick (isCR (overallWord answer)) (firstOf m d) (pick (mayStandBetween (overallWord answer)) m M.Absent)
+  pub start-cr : j .answer ≡ O.CR → r ≡ startAfter m (judgedValues j)
   start-cr q = v ∙ rw q
 
-pub counted-made : (c : CountingVisits) (d : StudyDay) (answer : Overall) (f s : MaybeDay) (shown best : BestResponse) →
-    f ≡ pick (isResponse (overallWord answer)) (firstOf (c .first) d) (c .first) →
-    s ≡ pick (isCR (overallWord answer)) (firstOf (c .start) d) (pick (mayStandBetween (overallWord answer)) (c .start) M.Absent) →
-    shown ≡ bestFrom (shownBy c d (overallWord answer)) → best ≡ betterOf (c .best) shown →
-    record { first = f; start = s; best = best } ≡ countedAfter c d (overallWord answer)
+pub counted-made : (c : CountingVisits) (j : Judged) (f s : MaybeDay) (shown best : BestResponse) → f ≡ firstAfter (c .firstresponse) j →
+    s ≡ startAfter (c .crstart) j → shown ≡ bestFrom (shownBy c j) → best ≡ betterOf (c .best) shown →
+    record { firstresponse = f; crstart = s; best = best } ≡ countedAfter c j
 unfolding countedAfter
-counted-made c d answer f s shown best fq sq wq bq = rw (fq, sq, bq, wq)
+counted-made c j f s shown best fq sq wq bq = rw (fq, sq, bq, wq)

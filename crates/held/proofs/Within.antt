@@ -8,13 +8,12 @@ use borrow.Author.Tests.{leb-true, le-leb}
 use Rattle.laws.specs.Choice.{pick}
 use Rattle.laws.proofs.Tests.{both-true}
 use Rattle.dates.specs.Calendar.{lastDayNumber, dateExists}
-use Rattle.dates.specs.declared.StudyDay.{StudyDay}
 use Rattle.records.specs.Refusals.{mostTargets}
-use Rattle.criteria.specs.Words.{Word}
 use Rattle.criteria.specs.Overall.{isPD, evaluable}
 use Rattle.endpoints.specs.declared.MaybeDay.{MaybeDay}
 use Rattle.endpoints.specs.declared.MaybeDay.the-variants as M
 use Rattle.endpoints.specs.Values.{isRecorded, dayValue}
+use Rattle.endpoints.specs.Course.{Judged}
 use Rattle.endpoints.specs.Best.{isCR, isResponse, mayStandBetween}
 use Rattle.held.specs.declared.EventDays.{EventDays}
 use Rattle.held.specs.declared.CountingVisits.{CountingVisits}
@@ -22,7 +21,8 @@ use Rattle.held.specs.declared.Enrolment.{Enrolment}
 use Rattle.held.specs.declared.FollowUp.{FollowUp}
 use Rattle.held.specs.declared.Subject.{Subject}
 use Rattle.held.specs.Range.{firstDay, dayInRange, maybeInRange, eventInRange, largestSum, enrolmentInRange, followUpInRange, inRange}
-use Rattle.held.specs.Visits.{firstOf, eventAfter, countedAfter}
+use Rattle.held.specs.Days.{at, firstOf}
+use Rattle.held.specs.Visits.{eventAfter, countedAfter}
 use Rattle.held.specs.Laws.{Within, AbsentOrWithin, EventWithin, CountedWithin, EnrolmentWithin, FollowUpWithin, SubjectWithin, RangeLaws}
 
 -- ---- what 12 judges
@@ -55,20 +55,20 @@ follow-up-within f e =
     let latest = both-true (dayInRange (f .latest .0)) _ (nadir .1) in
     let death = both-true (maybeInRange (f .death)) _ (latest .1) in
     let days = both-true (eventInRange (f .event)) _ (death .1) in
-    let previous = both-true (dayInRange (f .event .previous .0)) _ (days .0) in
+    let previous = both-true (dayInRange (f .event .lastvisit .0)) _ (days .0) in
     let rest = both-true (maybeInRange (f .event .progression)) _ (previous .1) in
-    let counted = both-true (maybeInRange (f .counted .first)) _ (days .1) in
+    let counted = both-true (maybeInRange (f .counted .firstresponse)) _ (days .1) in
     record {
       nadir = leb-true (f .earlier .nadir) largestSum (nadir .0);
       latest = within (f .latest .0) (latest .0);
       death = absent-or-within (f .death) (death .0);
       event =
           record {
-            previous = within (f .event .previous .0) (previous .0);
+            lastvisit = within (f .event .lastvisit .0) (previous .0);
             progression = absent-or-within (f .event .progression) (rest .0);
-            evaluable = absent-or-within (f .event .evaluable) (rest .1);
+            lastevaluable = absent-or-within (f .event .lastevaluable) (rest .1);
           };
-      counted = record { first = absent-or-within (f .counted .first) (counted .0); start = absent-or-within (f .counted .start) (counted .1) };
+      counted = record { firstresponse = absent-or-within (f .counted .firstresponse) (counted .0); crstart = absent-or-within (f .counted .crstart) (counted .1) };
     }
 
 pub subject-within : (s : Subject) → inRange s ≡ true → SubjectWithin s
@@ -88,11 +88,11 @@ follow-up-in-range f w =
       le-leb (f .earlier .nadir) largestSum (w .nadir),
       day-in-range (f .latest .0) (w .latest),
       maybe-in-range (f .death) (w .death),
-      day-in-range (f .event .previous .0) (w .event .previous),
+      day-in-range (f .event .lastvisit .0) (w .event .lastvisit),
       maybe-in-range (f .event .progression) (w .event .progression),
-      maybe-in-range (f .event .evaluable) (w .event .evaluable),
-      maybe-in-range (f .counted .first) (w .counted .first),
-      maybe-in-range (f .counted .start) (w .counted .start),
+      maybe-in-range (f .event .lastevaluable) (w .event .lastevaluable),
+      maybe-in-range (f .counted .firstresponse) (w .counted .firstresponse),
+      maybe-in-range (f .counted .crstart) (w .counted .crstart),
     )
 
 pub in-range : (s : Subject) → SubjectWithin s → inRange s ≡ true
@@ -104,8 +104,8 @@ range-laws = record { exactly = λ s. (subject-within s, in-range s) }
 
 -- ---- one visit more
 
-module _ (d : StudyDay) (w : Within (d .0)) where
-  first-within : (m : MaybeDay) → AbsentOrWithin m → AbsentOrWithin (firstOf m d)
+module _ (j : Judged) (w : Within (j .day)) where
+  first-within : (m : MaybeDay) → AbsentOrWithin m → AbsentOrWithin (firstOf m (at (j .day)))
   first-within M.Absent h = w
   first-within (M.On e) h = h
 
@@ -113,22 +113,27 @@ module _ (d : StudyDay) (w : Within (d .0)) where
   pick-within true m n h k = h
   pick-within false m n h k = k
 
-  pub event-within : (e : EventDays) (a : Word) → EventWithin e → EventWithin (eventAfter e d a)
+  pub event-within : (e : EventDays) → EventWithin e → EventWithin (eventAfter e j)
   unfolding eventAfter
-  event-within e a h = go (isRecorded (dayValue (e .progression))) refl (isPD a) refl (evaluable a) refl
+  event-within e h = go (isRecorded (dayValue (e .progression))) refl (isPD (j .answer)) refl (evaluable (j .answer)) refl
     where
-      go : (x : Bool) → isRecorded (dayValue (e .progression)) ≡ x → (y : Bool) → isPD a ≡ y → (z : Bool) → evaluable a ≡ z → EventWithin (eventAfter e d a)
+      go : (x : Bool) → isRecorded (dayValue (e .progression)) ≡ x → (y : Bool) → isPD (j .answer) ≡ y → (z : Bool) → evaluable (j .answer) ≡ z →
+          EventWithin (eventAfter e j)
       go true p y q z r = rw p h
-      go false p true q z r = rw (p, q) (record { previous = h .previous; progression = w; evaluable = h .evaluable })
-      go false p false q true r = rw (p, q, r) (record { previous = w; progression = tt; evaluable = w })
-      go false p false q false r = rw (p, q, r) (record { previous = w; progression = tt; evaluable = h .evaluable })
+      go false p true q z r = rw (p, q) (record { lastvisit = h .lastvisit; progression = w; lastevaluable = h .lastevaluable })
+      go false p false q true r = rw (p, q, r) (record { lastvisit = w; progression = tt; lastevaluable = w })
+      go false p false q false r = rw (p, q, r) (record { lastvisit = w; progression = tt; lastevaluable = h .lastevaluable })
 
-  pub counted-within : (c : CountingVisits) (a : Word) → CountedWithin c → CountedWithin (countedAfter c d a)
+  pub counted-within : (c : CountingVisits) → CountedWithin c → CountedWithin (countedAfter c j)
   unfolding countedAfter
-  counted-within c a h =
+  counted-within c h =
+      let after = firstOf (c .crstart) (at (j .day)) in
+      let between = pick (mayStandBetween (j .answer)) (c .crstart) M.Absent in
       record {
-        first = pick-within (isResponse a) (firstOf (c .first) d) (c .first) (first-within (c .first) (h .first)) (h .first);
-        start =
-            pick-within (isCR a) (firstOf (c .start) d) (pick (mayStandBetween a) (c .start) M.Absent) (first-within (c .start) (h .start))
-            (pick-within (mayStandBetween a) (c .start) M.Absent (h .start) tt);
+        firstresponse =
+            pick-within (isResponse (j .answer)) (firstOf (c .firstresponse) (at (j .day))) (c .firstresponse) (first-within (c .firstresponse) (h .firstresponse))
+            (h .firstresponse);
+        crstart =
+            pick-within (isCR (j .answer)) after between (first-within (c .crstart) (h .crstart))
+            (pick-within (mayStandBetween (j .answer)) (c .crstart) M.Absent (h .crstart) tt);
       }

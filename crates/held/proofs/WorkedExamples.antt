@@ -21,10 +21,10 @@ range-at-the-edges =
       latest = refl;
       death = refl;
       progression = refl;
-      previous = refl;
-      evaluable = refl;
-      first = refl;
-      start = refl;
+      lastvisit = refl;
+      lastevaluable = refl;
+      firstresponse = refl;
+      crstart = refl;
     }
 
 pub events-after : EventsAfter

@@ -9,12 +9,13 @@ use Rattle.dates.specs.declared.Date.{Date}
 use Rattle.dates.specs.declared.StudyDay.{StudyDay}
 use Rattle.dates.specs.Laws.{ymd}
 use Rattle.records.specs.Examples.{fivePlaces}
-use Rattle.criteria.specs.Words.{CR, PR, SD, PD, NE}
+use Rattle.criteria.specs.Words.{Word, CR, PR, SD, PD, NE}
 use Rattle.criteria.specs.declared.BaselineDisease.{BaselineDisease}
 use Rattle.endpoints.specs.declared.BestResponse.{BestResponse}
 use Rattle.endpoints.specs.declared.BestResponse.the-variants as B
 use Rattle.endpoints.specs.declared.MaybeDay.{MaybeDay}
 use Rattle.endpoints.specs.declared.MaybeDay.the-variants as M
+use Rattle.endpoints.specs.Course.{Judged}
 use Rattle.held.specs.Range.{inRange}
 use Rattle.held.specs.Visits.{bestFrom, betterOf, eventAfter, countedAfter}
 use Rattle.held.specs.declared.EventDays.{EventDays}
@@ -27,13 +28,17 @@ day n = record { 0 = n }
 abbrev pub onDay : ℕ → MaybeDay
 onDay n = M.On (day n)
 
+-- a visit as judged
+abbrev pub seen : ℕ → Word → Judged
+seen d answer = record { day = d; answer = answer }
+
 -- progression, v and the last evaluable visit
 abbrev pub events : MaybeDay → ℕ → MaybeDay → EventDays
-events progression previous evaluable = record { progression = progression; previous = day previous; evaluable = evaluable }
+events progression previous evaluable = record { progression = progression; lastvisit = day previous; lastevaluable = evaluable }
 
 -- the first CR or PR, the start of the last run of CR, and the best response so far
 abbrev pub counts : MaybeDay → MaybeDay → BestResponse → CountingVisits
-counts first start best = record { first = first; start = start; best = best }
+counts first start best = record { firstresponse = first; crstart = start; best = best }
 
 -- no visit yet
 abbrev pub noEvents : EventDays
@@ -89,22 +94,22 @@ pub record RangeAtTheEdges : Type 0 where
   pub death : map (λ (d : ℕ). inRange (printedWith 60 1 false (onDay d) noEvents noCounts)) (0 ∷ 40178 ∷ []) ≡ false ∷ false ∷ []
   pub progression : map (λ (d : ℕ). inRange (printedWith 60 1 false M.Absent (events (onDay d) 1 M.Absent) noCounts)) (0 ∷ 40178 ∷ [])
       ≡ false ∷ false ∷ []
-  pub previous : map (λ (d : ℕ). inRange (printedWith 60 1 false M.Absent (events M.Absent d M.Absent) noCounts)) (0 ∷ 40178 ∷ [])
+  pub lastvisit : map (λ (d : ℕ). inRange (printedWith 60 1 false M.Absent (events M.Absent d M.Absent) noCounts)) (0 ∷ 40178 ∷ [])
       ≡ false ∷ false ∷ []
-  pub evaluable : map (λ (d : ℕ). inRange (printedWith 60 1 false M.Absent (events M.Absent 1 (onDay d)) noCounts)) (0 ∷ 40178 ∷ [])
+  pub lastevaluable : map (λ (d : ℕ). inRange (printedWith 60 1 false M.Absent (events M.Absent 1 (onDay d)) noCounts)) (0 ∷ 40178 ∷ [])
       ≡ false ∷ false ∷ []
-  pub first : map (λ (d : ℕ). inRange (printedWith 60 1 false M.Absent noEvents (counts (onDay d) M.Absent B.NE))) (0 ∷ 40178 ∷ [])
+  pub firstresponse : map (λ (d : ℕ). inRange (printedWith 60 1 false M.Absent noEvents (counts (onDay d) M.Absent B.NE))) (0 ∷ 40178 ∷ [])
       ≡ false ∷ false ∷ []
-  pub start : map (λ (d : ℕ). inRange (printedWith 60 1 false M.Absent noEvents (counts M.Absent (onDay d) B.NE))) (0 ∷ 40178 ∷ [])
+  pub crstart : map (λ (d : ℕ). inRange (printedWith 60 1 false M.Absent noEvents (counts M.Absent (onDay d) B.NE))) (0 ∷ 40178 ∷ [])
       ≡ false ∷ false ∷ []
 
 -- SD 43, NE 85, PD 127, SD 169 or PD 169: v moves with each visit before the progression, which is the first PD, the last evaluable visit with SD
 pub record EventsAfter : Type 0 where
-  pub sd43 : eventAfter noEvents (day 43) SD ≡ events M.Absent 43 (onDay 43)
-  pub ne85 : eventAfter (events M.Absent 43 (onDay 43)) (day 85) NE ≡ events M.Absent 85 (onDay 43)
-  pub pd127 : eventAfter (events M.Absent 85 (onDay 43)) (day 127) PD ≡ events (onDay 127) 85 (onDay 43)
-  pub sd169 : eventAfter (events (onDay 127) 85 (onDay 43)) (day 169) SD ≡ events (onDay 127) 85 (onDay 43)
-  pub pd169 : eventAfter (events (onDay 127) 85 (onDay 43)) (day 169) PD ≡ events (onDay 127) 85 (onDay 43)
+  pub sd43 : eventAfter noEvents (seen 43 SD) ≡ events M.Absent 43 (onDay 43)
+  pub ne85 : eventAfter (events M.Absent 43 (onDay 43)) (seen 85 NE) ≡ events M.Absent 85 (onDay 43)
+  pub pd127 : eventAfter (events M.Absent 85 (onDay 43)) (seen 127 PD) ≡ events (onDay 127) 85 (onDay 43)
+  pub sd169 : eventAfter (events (onDay 127) 85 (onDay 43)) (seen 169 SD) ≡ events (onDay 127) 85 (onDay 43)
+  pub pd169 : eventAfter (events (onDay 127) 85 (onDay 43)) (seen 169 PD) ≡ events (onDay 127) 85 (onDay 43)
 
 -- behind a first CR on day 43
 abbrev pub afterCR : CountingVisits
@@ -112,26 +117,26 @@ afterCR = counts (onDay 43) (onDay 43) B.SD
 
 -- one counting visit more: 28 days or more apart, with only CR or NE between two CR visits; SD from day 36 on
 pub record CountsAfter : Type 0 where
-  pub cr43 : countedAfter noCounts (day 43) CR ≡ afterCR
-  pub pr35 : countedAfter noCounts (day 35) PR ≡ counts (onDay 35) M.Absent B.NE
-  pub sd35 : countedAfter noCounts (day 35) SD ≡ noCounts
-  pub sd36 : countedAfter noCounts (day 36) SD ≡ counts M.Absent M.Absent B.SD
-  pub pd43 : countedAfter noCounts (day 43) PD ≡ counts M.Absent M.Absent B.PD
-  pub cr70 : countedAfter afterCR (day 70) CR ≡ afterCR
-  pub cr71 : countedAfter afterCR (day 71) CR ≡ counts (onDay 43) (onDay 43) B.CR
-  pub pr71 : countedAfter afterCR (day 71) PR ≡ counts (onDay 43) M.Absent B.PR
-  pub ne71 : countedAfter afterCR (day 71) NE ≡ afterCR
-  pub sd71 : countedAfter afterCR (day 71) SD ≡ counts (onDay 43) M.Absent B.SD
-  pub pd71 : countedAfter afterCR (day 71) PD ≡ counts (onDay 43) M.Absent B.SD
+  pub cr43 : countedAfter noCounts (seen 43 CR) ≡ afterCR
+  pub pr35 : countedAfter noCounts (seen 35 PR) ≡ counts (onDay 35) M.Absent B.NE
+  pub sd35 : countedAfter noCounts (seen 35 SD) ≡ noCounts
+  pub sd36 : countedAfter noCounts (seen 36 SD) ≡ counts M.Absent M.Absent B.SD
+  pub pd43 : countedAfter noCounts (seen 43 PD) ≡ counts M.Absent M.Absent B.PD
+  pub cr70 : countedAfter afterCR (seen 70 CR) ≡ afterCR
+  pub cr71 : countedAfter afterCR (seen 71 CR) ≡ counts (onDay 43) (onDay 43) B.CR
+  pub pr71 : countedAfter afterCR (seen 71 PR) ≡ counts (onDay 43) M.Absent B.PR
+  pub ne71 : countedAfter afterCR (seen 71 NE) ≡ afterCR
+  pub sd71 : countedAfter afterCR (seen 71 SD) ≡ counts (onDay 43) M.Absent B.SD
+  pub pd71 : countedAfter afterCR (seen 71 PD) ≡ counts (onDay 43) M.Absent B.SD
   -- behind a PR of day 43, a CR of day 71 starts a run of its own
-  pub crAfterPR : countedAfter (counts (onDay 43) M.Absent B.SD) (day 71) CR
+  pub crAfterPR : countedAfter (counts (onDay 43) M.Absent B.SD) (seen 71 CR)
       ≡ counts (onDay 43) (onDay 71) B.PR
   -- an NE leaves everything as it is: behind PR 43; PR 43 and CR 71; CR 43 and CR 71; PD 43
-  pub neAfterPR : countedAfter (counts (onDay 43) M.Absent B.SD) (day 99) NE ≡ counts (onDay 43) M.Absent B.SD
-  pub neAfterPRAndCR : countedAfter (counts (onDay 43) (onDay 71) B.PR) (day 99) NE
+  pub neAfterPR : countedAfter (counts (onDay 43) M.Absent B.SD) (seen 99 NE) ≡ counts (onDay 43) M.Absent B.SD
+  pub neAfterPRAndCR : countedAfter (counts (onDay 43) (onDay 71) B.PR) (seen 99 NE)
       ≡ counts (onDay 43) (onDay 71) B.PR
-  pub neAfterTwoCR : countedAfter (counts (onDay 43) (onDay 43) B.CR) (day 99) NE ≡ counts (onDay 43) (onDay 43) B.CR
-  pub neAfterPD : countedAfter (counts M.Absent M.Absent B.PD) (day 99) NE ≡ counts M.Absent M.Absent B.PD
+  pub neAfterTwoCR : countedAfter (counts (onDay 43) (onDay 43) B.CR) (seen 99 NE) ≡ counts (onDay 43) (onDay 43) B.CR
+  pub neAfterPD : countedAfter (counts M.Absent M.Absent B.PD) (seen 99 NE) ≡ counts M.Absent M.Absent B.PD
 
 -- the order of document 01: CR, PR, SD, PD, NE; the better of each with each, rows and columns in this order
 abbrev pub responses : List BestResponse

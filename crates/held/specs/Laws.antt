@@ -22,13 +22,13 @@ AbsentOrWithin M.Absent = Unit {0}
 AbsentOrWithin (M.On d) = Within (d .0)
 
 pub record EventWithin (e : EventDays) : Type 0 where
-  pub previous : Within (e .previous .0)
+  pub lastvisit : Within (e .lastvisit .0)
   pub progression : AbsentOrWithin (e .progression)
-  pub evaluable : AbsentOrWithin (e .evaluable)
+  pub lastevaluable : AbsentOrWithin (e .lastevaluable)
 
 pub record CountedWithin (c : CountingVisits) : Type 0 where
-  pub first : AbsentOrWithin (c .first)
-  pub start : AbsentOrWithin (c .start)
+  pub firstresponse : AbsentOrWithin (c .firstresponse)
+  pub crstart : AbsentOrWithin (c .crstart)
 
 pub record EnrolmentWithin (e : Enrolment) : Type 0 where
   pub randomisation : dateExists (e .randomisation) ≡ true

@@ -1,4 +1,6 @@
+pub mod Days
 pub mod Range
 pub mod Visits
+pub mod Summary
 pub mod Laws
 pub mod Examples

@@ -31,10 +31,10 @@ abbrev pub largestSum : ℕ
 largestSum = mostTargets * largestSize
 
 abbrev pub eventInRange : EventDays → Bool
-eventInRange e = both (dayInRange (e .previous .0)) (both (maybeInRange (e .progression)) (maybeInRange (e .evaluable)))
+eventInRange e = both (dayInRange (e .lastvisit .0)) (both (maybeInRange (e .progression)) (maybeInRange (e .lastevaluable)))
 
 abbrev pub countedInRange : CountingVisits → Bool
-countedInRange c = both (maybeInRange (c .first)) (maybeInRange (c .start))
+countedInRange c = both (maybeInRange (c .firstresponse)) (maybeInRange (c .crstart))
 
 -- the randomisation date, the target count and the baseline sum
 unfoldable pub enrolmentInRange : Enrolment → Bool

@@ -1,7 +1,5 @@
 -- Document 01, "Outcome": what one visit more makes of what is held for PFS, best response and duration.
 -- Assumes nothing.
-use Prim.Native.Nat.{ℕ}
-use mathlib.Core.Bool.{Bool, false}
 use lib.Dec.{leb}
 use Rattle.laws.specs.Choice.{both, pick}
 use Rattle.dates.specs.declared.StudyDay.{StudyDay}
@@ -10,32 +8,25 @@ use Rattle.criteria.specs.Overall.{isPD, evaluable}
 use Rattle.endpoints.specs.declared.MaybeDay.{MaybeDay}
 use Rattle.endpoints.specs.declared.MaybeDay.the-variants as M
 use Rattle.endpoints.specs.Values.{isRecorded, dayValue}
+use Rattle.endpoints.specs.Course.{Judged}
 use Rattle.endpoints.specs.declared.BestResponse.{BestResponse}
 use Rattle.endpoints.specs.declared.BestResponse.the-variants as B
-use Rattle.endpoints.specs.Best.{isCR, isResponse, isStableOrBetter, mayStandBetween, stableFrom, farApart, bestOf}
+use Rattle.endpoints.specs.Best.{isCR, isResponse, isStableOrBetter, mayStandBetween, stableFrom, bestOf}
+use Rattle.held.specs.Days.{at, firstOf, farAfter}
 use Rattle.held.specs.declared.EventDays.{EventDays}
 use Rattle.held.specs.declared.CountingVisits.{CountingVisits}
 
-abbrev pub firstOf : MaybeDay → StudyDay → MaybeDay
-firstOf M.Absent d = M.On d
-firstOf (M.On e) d = M.On e
-
--- 28 days or more after a day that is recorded
-abbrev pub farAfter : MaybeDay → ℕ → Bool
-farAfter M.Absent d = false
-farAfter (M.On e) d = farApart (e .0) d
-
 -- an evaluable visit before the event
 abbrev pub evaluableOn : StudyDay → EventDays
-evaluableOn d = record { progression = M.Absent; previous = d; evaluable = M.On d }
+evaluableOn d = record { progression = M.Absent; lastvisit = d; lastevaluable = M.On d }
 
 -- the first PD is the progression, and any visit before it is v and, where evaluable, the last evaluable one
-unfoldable pub eventAfter : EventDays → StudyDay → Word → EventDays
-eventAfter e d answer =
+unfoldable pub eventAfter : EventDays → Judged → EventDays
+eventAfter e j =
     pick (isRecorded (dayValue (e .progression))) e
-    (pick (isPD answer) (record { progression = M.On d; previous = e .previous; evaluable = e .evaluable })
-    (pick (evaluable answer) (evaluableOn d)
-    (record { progression = M.Absent; previous = d; evaluable = e .evaluable })))
+    (pick (isPD (j .answer)) (record { progression = M.On (at (j .day)); lastvisit = e .lastvisit; lastevaluable = e .lastevaluable })
+    (pick (evaluable (j .answer)) (evaluableOn (at (j .day)))
+    (record { progression = M.Absent; lastvisit = at (j .day); lastevaluable = e .lastevaluable })))
 
 -- the word of a best response as it is held; no best response is NA or NN
 abbrev pub bestFrom : Word → BestResponse
@@ -69,16 +60,23 @@ betterOf B.NE y = y
 
 -- what one counting visit more shows, with those before it: CR far enough after the start of a run of CR, CR or PR far enough after the first of them, CR, PR
 -- or SD late enough, or progression
-abbrev pub shownBy : CountingVisits → StudyDay → Word → Word
-shownBy c d answer =
-    bestOf (both (isCR answer) (farAfter (c .start) (d .0))) (both (isResponse answer) (farAfter (c .first) (d .0)))
-    (both (isStableOrBetter answer) (leb stableFrom (d .0))) (isPD answer)
+abbrev pub shownBy : CountingVisits → Judged → Word
+shownBy c j =
+    bestOf (both (isCR (j .answer)) (farAfter (c .crstart) (j .day))) (both (isResponse (j .answer)) (farAfter (c .firstresponse) (j .day)))
+    (both (isStableOrBetter (j .answer)) (leb stableFrom (j .day))) (isPD (j .answer))
+
+-- the first CR or PR, and the first CR since which every visit was CR or NE
+abbrev pub firstAfter : MaybeDay → Judged → MaybeDay
+firstAfter first j = pick (isResponse (j .answer)) (firstOf first (at (j .day))) first
+
+abbrev pub startAfter : MaybeDay → Judged → MaybeDay
+startAfter start j = pick (isCR (j .answer)) (firstOf start (at (j .day))) (pick (mayStandBetween (j .answer)) start M.Absent)
 
 -- one counting visit more
-unfoldable pub countedAfter : CountingVisits → StudyDay → Word → CountingVisits
-countedAfter c d answer =
+unfoldable pub countedAfter : CountingVisits → Judged → CountingVisits
+countedAfter c j =
     record {
-      first = pick (isResponse answer) (firstOf (c .first) d) (c .first);
-      start = pick (isCR answer) (firstOf (c .start) d) (pick (mayStandBetween answer) (c .start) M.Absent);
-      best = betterOf (c .best) (bestFrom (shownBy c d answer));
+      firstresponse = firstAfter (c .firstresponse) j;
+      crstart = startAfter (c .crstart) j;
+      best = betterOf (c .best) (bestFrom (shownBy c j));
     }

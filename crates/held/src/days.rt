@@ -2,7 +2,7 @@
 use dates::StudyDay;
 use endpoints::MaybeDay;
 ghost use mathlib.Core.Path.{_≡_};
-ghost use Rattle.held.specs.Visits.{firstOf, farAfter};
+ghost use Rattle.held.specs.Days.{firstOf, farAfter};
 
 // Days between a response and its confirmation.
 const CONFIRM_DAYS: u64 = 28;

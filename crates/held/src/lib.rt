@@ -20,17 +20,17 @@ pub use visits::event_after;
 pub struct EventDays {
     pub progression: MaybeDay,
     // The last visit recorded before the event, evaluable or not, or day 1.
-    pub previous: StudyDay,
+    pub lastvisit: StudyDay,
     // The last evaluable visit before the event.
-    pub evaluable: MaybeDay,
+    pub lastevaluable: MaybeDay,
 }
 
 // What the counting visits show.
 pub struct CountingVisits {
     // The first CR or PR.
-    pub first: MaybeDay,
+    pub firstresponse: MaybeDay,
     // The first CR since which every one was CR or NE.
-    pub start: MaybeDay,
+    pub crstart: MaybeDay,
     // The best response that they show so far.
     pub best: BestResponse,
 }

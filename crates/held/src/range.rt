@@ -37,15 +37,15 @@ fn event_in_range(event: EventDays) -> bool
     ensures { λ r. ⌜ r ≡ eventInRange event ⌝ }
 {
     let progression = event.progression;
-    let evaluable = event.evaluable;
-    day_in_range(event.previous) && (maybe_in_range(progression) && maybe_in_range(evaluable))
+    let evaluable = event.lastevaluable;
+    day_in_range(event.lastvisit) && (maybe_in_range(progression) && maybe_in_range(evaluable))
 }
 
 fn counted_in_range(counted: CountingVisits) -> bool
     ensures { λ r. ⌜ r ≡ countedInRange counted ⌝ }
 {
-    let first = counted.first;
-    let start = counted.start;
+    let first = counted.firstresponse;
+    let start = counted.crstart;
     maybe_in_range(first) && maybe_in_range(start)
 }
 

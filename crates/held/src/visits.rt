@@ -6,15 +6,13 @@ use super::days::first_of;
 use criteria::Overall;
 use dates::StudyDay;
 use endpoints::BestResponse;
+use endpoints::JudgedVisit;
 use endpoints::MaybeDay;
 use results::best_of;
 use results::is_recorded;
 ghost use mathlib.Core.Path.{_≡_};
-ghost use Rattle.criteria.specs.Words.{overallWord};
-ghost use Rattle.laws.specs.Choice.{pick};
-ghost use Rattle.endpoints.specs.declared.MaybeDay.the-variants as M;
-ghost use Rattle.endpoints.specs.Best.{isCR, isResponse, mayStandBetween};
-ghost use Rattle.held.specs.Visits.{firstOf, evaluableOn, eventAfter, bestFrom, betterOf, shownBy, countedAfter};
+ghost use Rattle.endpoints.specs.Course.{judgedValues};
+ghost use Rattle.held.specs.Visits.{evaluableOn, eventAfter, bestFrom, betterOf, shownBy, firstAfter, startAfter, countedAfter};
 
 // The day from which SD is a best response.
 const STABLE_FROM: u32 = 36;
@@ -25,30 +23,32 @@ fn evaluable_on(visit: StudyDay) -> EventDays
 {
     EventDays {
         progression: MaybeDay::Absent,
-        previous: visit,
-        evaluable: MaybeDay::On(visit),
+        lastvisit: visit,
+        lastevaluable: MaybeDay::On(visit),
     }
 }
 
-pub fn event_after(event: EventDays, day: StudyDay, answer: Overall) -> EventDays
-    ensures { λ r. ⌜ r ≡ eventAfter event day (overallWord answer) ⌝ }
+pub fn event_after(event: EventDays, visit: JudgedVisit) -> EventDays
+    ensures { λ r. ⌜ r ≡ eventAfter event (judgedValues visit) ⌝ }
 {
     let progression = event.progression;
     if is_recorded(progression) {
         return event;
     }
-    let previous = event.previous;
-    let evaluable = event.evaluable;
+    let day = visit.day;
+    let answer = visit.answer;
+    let previous = event.lastvisit;
+    let evaluable = event.lastevaluable;
     match answer {
         Overall::PD => EventDays {
             progression: MaybeDay::On(day),
-            previous: previous,
-            evaluable: evaluable,
+            lastvisit: previous,
+            lastevaluable: evaluable,
         },
         Overall::NE => EventDays {
             progression: MaybeDay::Absent,
-            previous: day,
-            evaluable: evaluable,
+            lastvisit: day,
+            lastevaluable: evaluable,
         },
         Overall::CR => evaluable_on(day),
         Overall::PR => evaluable_on(day),
@@ -88,11 +88,13 @@ fn better_of(a: BestResponse, b: BestResponse) -> BestResponse
 }
 
 // What a counting visit shows with those before it.
-fn shown_by(c: CountingVisits, day: StudyDay, answer: Overall) -> BestResponse
-    ensures { λ r. ⌜ r ≡ bestFrom (shownBy c day (overallWord answer)) ⌝ }
+fn shown_by(c: CountingVisits, visit: JudgedVisit) -> BestResponse
+    ensures { λ r. ⌜ r ≡ bestFrom (shownBy c (judgedValues visit)) ⌝ }
 {
-    let first = c.first;
-    let start = c.start;
+    let day = visit.day;
+    let answer = visit.answer;
+    let first = c.firstresponse;
+    let start = c.crstart;
     let late = STABLE_FROM <= day.0;
     match answer {
         Overall::CR => best_of(far_after(start, day), far_after(first, day), late, false),
@@ -103,9 +105,11 @@ fn shown_by(c: CountingVisits, day: StudyDay, answer: Overall) -> BestResponse
     }
 }
 
-fn first_after(first: MaybeDay, day: StudyDay, answer: Overall) -> MaybeDay
-    ensures { λ r. ⌜ r ≡ pick (isResponse (overallWord answer)) (firstOf first day) first ⌝ }
+fn first_after(first: MaybeDay, visit: JudgedVisit) -> MaybeDay
+    ensures { λ r. ⌜ r ≡ firstAfter first (judgedValues visit) ⌝ }
 {
+    let day = visit.day;
+    let answer = visit.answer;
     match answer {
         Overall::CR => first_of(first, day),
         Overall::PR => first_of(first, day),
@@ -115,9 +119,11 @@ fn first_after(first: MaybeDay, day: StudyDay, answer: Overall) -> MaybeDay
     }
 }
 
-fn start_after(start: MaybeDay, day: StudyDay, answer: Overall) -> MaybeDay
-    ensures { λ r. ⌜ r ≡ pick (isCR (overallWord answer)) (firstOf start day) (pick (mayStandBetween (overallWord answer)) start M.Absent) ⌝ }
+fn start_after(start: MaybeDay, visit: JudgedVisit) -> MaybeDay
+    ensures { λ r. ⌜ r ≡ startAfter start (judgedValues visit) ⌝ }
 {
+    let day = visit.day;
+    let answer = visit.answer;
     match answer {
         Overall::CR => first_of(start, day),
         Overall::PR => MaybeDay::Absent,
@@ -127,16 +133,16 @@ fn start_after(start: MaybeDay, day: StudyDay, answer: Overall) -> MaybeDay
     }
 }
 
-pub fn counted_after(c: CountingVisits, day: StudyDay, answer: Overall) -> CountingVisits
-    ensures { λ r. ⌜ r ≡ countedAfter c day (overallWord answer) ⌝ }
+pub fn counted_after(c: CountingVisits, visit: JudgedVisit) -> CountingVisits
+    ensures { λ r. ⌜ r ≡ countedAfter c (judgedValues visit) ⌝ }
 {
-    let first = c.first;
-    let start = c.start;
+    let first = c.firstresponse;
+    let start = c.crstart;
     let best = c.best;
-    let shown = shown_by(c, day, answer);
+    let shown = shown_by(c, visit);
     CountingVisits {
-        first: first_after(first, day, answer),
-        start: start_after(start, day, answer),
+        firstresponse: first_after(first, visit),
+        crstart: start_after(start, visit),
         best: better_of(best, shown),
     }
 }

@@ -113,7 +113,7 @@ module _ (l page₀ page : List ℕ) (s : Subject) (at k : ℕ) (w : Printing l 
   judged : Judges l a
   judged = ended l s k (w .standing) h a v
 
-  inside : fileValues a ≡ pick (startsLate (durationHeld s) (dayValue (s .followup .counted .first)) (pfsHeld s)) (refused 14 (k - 1)) (accepted (outcomeOf s))
+  inside : fileValues a ≡ pick (startsLate (durationHeld s) (dayValue (s .followup .counted .firstresponse)) (pfsHeld s)) (refused 14 (k - 1)) (accepted (outcomeOf s))
   unfolding verdictHeld
   inside = v .answer ∙ rw (w .standing .taken .held .inside)
 
@@ -123,14 +123,14 @@ module _ (l page₀ page : List ℕ) (s : Subject) (at k : ℕ) (w : Printing l 
       subst TellsWithin (read .1 .answer ∙ reading-in-range s (w .standing .taken .held .inside)) (calls-in-range .told (read .1) (w .standing .taken .held .inside))
 
   small : SmallIndex (fileValues a)
-  small = subst SmallIndex (sym inside) (go (startsLate (durationHeld s) (dayValue (s .followup .counted .first)) (pfsHeld s)))
+  small = subst SmallIndex (sym inside) (go (startsLate (durationHeld s) (dayValue (s .followup .counted .firstresponse)) (pfsHeld s)))
     where
       go : (late : Bool) → SmallIndex (pick late (refused 14 (k - 1)) (accepted (outcomeOf s)))
       go true = omega arith
       go false = tt
 
   told : (o : Outcome) → verdictOf l ≡ accepted o → TellsWithin (outcome o)
-  told o e = go (startsLate (durationHeld s) (dayValue (s .followup .counted .first)) (pfsHeld s)) (sym inside ∙ judged .answer ∙ e)
+  told o e = go (startsLate (durationHeld s) (dayValue (s .followup .counted .firstresponse)) (pfsHeld s)) (sym inside ∙ judged .answer ∙ e)
     where
       go : (late : Bool) → pick late (refused 14 (k - 1)) (accepted (outcomeOf s)) ≡ accepted o → TellsWithin (outcome o)
       go true q = absurd (apart refl q)

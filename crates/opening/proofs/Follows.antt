@@ -6,7 +6,7 @@ use mathlib.Core.List.{List, []}
 use Prim.Native.Nat.{ℕ}
 use Rattle.records.specs.declared.BaselineEntry.{BaselineEntry}
 use Rattle.endpoints.specs.StudyRecords.{Baseline}
-use Rattle.held.proofs.Follows.{eventOf, countedOf, summary}
+use Rattle.held.specs.Summary.{eventOf, countedOf, summary}
 use Rattle.opening.specs.Opening.{firstSubject}
 
 abbrev pub baselineOf : BaselineEntry → List Bool → List ℕ → Baseline

@@ -12,7 +12,6 @@ use Rattle.dates.specs.Calendar.{dateExists}
 use Rattle.records.specs.declared.BaselineEntry.{BaselineEntry}
 use Rattle.records.specs.Refusals.{mostTargets, largestSize}
 use Rattle.criteria.specs.Sums.{sumWhere, baselineSum}
-use Rattle.criteria.specs.Nadir.{nadirOf}
 use Rattle.criteria.specs.Overall.{evaluable}
 use Rattle.held.specs.Range.{enrolmentInRange, inRange}
 use Rattle.opening.specs.Opening.{firstSubject, blank}
@@ -33,7 +32,7 @@ sum-most marked sizes (suc n) small = go (marked n) (sum-most marked sizes n (λ
 
 pub opening-within : (b : BaselineEntry) (nodes : List Bool) (sizes : List ℕ) → dateExists (b .date) ≡ true → b .count ≤ mostTargets →
     ((k : ℕ) → k < mostTargets → getD sizes k 0 ≤ largestSize) → SubjectWithin (firstSubject b nodes sizes)
-unfolding firstSubject nadirOf baselineSum
+unfolding firstSubject baselineSum
 opening-within b nodes sizes date count small =
     let sum = sum-most (λ (i : ℕ). ltb i (b .count)) sizes mostTargets small in
     record {
@@ -43,7 +42,7 @@ opening-within b nodes sizes date count small =
             nadir = sum;
             latest = (omega arith, omega arith);
             death = tt;
-            event = record { previous = (omega arith, omega arith); progression = tt; evaluable = tt };
-            counted = record { first = tt; start = tt };
+            event = record { lastvisit = (omega arith, omega arith); progression = tt; lastevaluable = tt };
+            counted = record { firstresponse = tt; crstart = tt };
           };
     }

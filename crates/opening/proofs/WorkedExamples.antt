@@ -5,11 +5,10 @@ use mathlib.Core.Path.{refl}
 use Rattle.dates.specs.Calendar.{leapYear, daysInMonth, dateExists}
 use Rattle.records.specs.Refusals.{wrongSize, largeMeasured, setBeyond, sizedUnmeasured, withoutDisease, outsideLimits, notZero, refusalOfRead}
 use Rattle.criteria.specs.Sums.{baselineSum}
-use Rattle.criteria.specs.Nadir.{nadirOf}
 use Rattle.endpoints.specs.Adding.{refusalOfOpening}
 use Rattle.opening.specs.Opening.{firstSubject, blank, openedSubject}
 use Rattle.opening.specs.Examples.{OpenedAtTheEdges}
 
 pub opened-at-the-edges : OpenedAtTheEdges
-unfolding leapYear daysInMonth dateExists wrongSize largeMeasured setBeyond sizedUnmeasured withoutDisease outsideLimits notZero refusalOfRead baselineSum nadirOf refusalOfOpening firstSubject blank openedSubject
+unfolding leapYear daysInMonth dateExists wrongSize largeMeasured setBeyond sizedUnmeasured withoutDisease outsideLimits notZero refusalOfRead baselineSum refusalOfOpening firstSubject blank openedSubject
 opened-at-the-edges = record { numbers = refl; printed = refl; withoutNontarget = refl; noDate = refl; visit = refl; therapy = refl; death = refl }

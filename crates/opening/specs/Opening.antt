@@ -28,10 +28,10 @@ use Rattle.held.specs.declared.Subject.{Subject}
 
 -- no progression and no evaluable visit; v is the day given
 abbrev pub noVisits : StudyDay → EventDays
-noVisits day = record { progression = M.Absent; previous = day; evaluable = M.Absent }
+noVisits day = record { progression = M.Absent; lastvisit = day; lastevaluable = M.Absent }
 
 abbrev pub nothingCounted : CountingVisits
-nothingCounted = record { first = M.Absent; start = M.Absent; best = B.NE }
+nothingCounted = record { firstresponse = M.Absent; crstart = M.Absent; best = B.NE }
 
 -- the latest day and v start at 1
 unfoldable pub firstSubject : BaselineEntry → List Bool → List ℕ → Subject

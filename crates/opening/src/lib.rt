@@ -56,8 +56,8 @@ fn no_visits(day: StudyDay) -> EventDays
 {
     EventDays {
         progression: MaybeDay::Absent,
-        previous: day,
-        evaluable: MaybeDay::Absent,
+        lastvisit: day,
+        lastevaluable: MaybeDay::Absent,
     }
 }
 
@@ -65,8 +65,8 @@ fn nothing_counted() -> CountingVisits
     ensures { λ r. ⌜ r ≡ nothingCounted ⌝ }
 {
     CountingVisits {
-        first: MaybeDay::Absent,
-        start: MaybeDay::Absent,
+        firstresponse: MaybeDay::Absent,
+        crstart: MaybeDay::Absent,
         best: BestResponse::NE,
     }
 }

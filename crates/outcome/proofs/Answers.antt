@@ -24,7 +24,11 @@ use Rattle.criteria.specs.declared.ChangeAnswer.the-variants as C
 use Rattle.criteria.specs.Words.{Word, CR, PR, SD, PD, NE, targetWord, statusWord, overallWord}
 use Rattle.criteria.specs.Sums.{measuredSum, allMeasured}
 use Rattle.criteria.specs.Targets.{allGone, grown, shrunk, targetAnswer}
-use Rattle.criteria.specs.Overall.{grid, rowOf, columnOf, isPD, overallAnswer}
+use Rattle.criteria.specs.Inputs.{Visit, visitOf}
+use Rattle.criteria.specs.Overall.{grid, rowOf, columnOf, isPD, overallBy}
+use Rattle.criteria.specs.Visits.{overallAnswer}
+use Rattle.criteria.specs.declared.BaselineDisease.{BaselineDisease}
+use Rattle.criteria.specs.declared.Earlier.{Earlier}
 use Rattle.criteria.specs.Change.{signed, roundedChange, changeValues, changeBetween, changeOf}
 use Rattle.endpoints.specs.Values.{isRecorded, dayValue}
 use Rattle.endpoints.specs.Adding.{afterOwn}
@@ -42,14 +46,14 @@ use Rattle.placing.specs.Promises.{dayOn, refusalOnDay, responsesBy, subjectBy,
 
 -- ---- the responses at a visit
 
-some-target : (e : Enrolment) (f : FollowUp) (measured : List Bool) (sizes : List ℕ) → Some targetWord (targetAnswer (e .baseline) (f .earlier) measured sizes)
+some-target : (b : BaselineDisease) (earlier : Earlier) (v : Visit) → Some targetWord (targetAnswer b earlier v)
 unfolding targetAnswer
-some-target e f measured sizes =
-    pick-some targetWord (eqb (e .baseline .count) 0) _ _ (T.NA, refl)
-    (pick-some targetWord (both (allMeasured (e .baseline .count) measured) (allGone (e .baseline .count) (e .baseline .nodes) sizes)) _ _ (T.CR, refl)
-    (pick-some targetWord (grown (f .earlier .nadir) (measuredSum measured sizes)) _ _ (T.PD, refl)
-    (pick-some targetWord (not (allMeasured (e .baseline .count) measured)) _ _ (T.NE, refl)
-    (pick-some targetWord (shrunk (e .baseline .sum) (measuredSum measured sizes)) _ _ (T.PR, refl) (T.SD, refl)))))
+some-target b earlier v =
+    pick-some targetWord (eqb (b .count) 0) _ _ (T.NA, refl)
+    (pick-some targetWord (both (allMeasured (b .count) (v .measured)) (allGone (b .count) (b .nodes) (v .sizes))) _ _ (T.CR, refl)
+    (pick-some targetWord (grown (earlier .nadir) (measuredSum (v .measured) (v .sizes))) _ _ (T.PD, refl)
+    (pick-some targetWord (not (allMeasured (b .count) (v .measured))) _ _ (T.NE, refl)
+    (pick-some targetWord (shrunk (b .sum) (measuredSum (v .measured) (v .sizes))) _ _ (T.PR, refl) (T.SD, refl)))))
 
 -- the cells of the grid
 abbrev AllSome : List Word → Type 0
@@ -88,31 +92,33 @@ four w x y z = (w, (x, (y, (z, tt))))
 all-rows : AllRows grid
 all-rows = (four cr pr pr cr, (four pr pr pr pr, (four sd sd sd sd, (four ne ne ne ne, (four cr sd ne ne, tt)))))
 
-some-overall : (assessed newLesion : Bool) (target nontarget : Word) → Some overallWord (overallAnswer assessed newLesion target nontarget)
-unfolding overallAnswer
-some-overall assessed newLesion target nontarget =
-    pick-some overallWord (not assessed) _ _ (O.NE, refl)
-    (pick-some overallWord (either newLesion (either (isPD target) (isPD nontarget))) _ _ (O.PD, refl)
+some-overall : (b : BaselineDisease) (earlier : Earlier) (v : Visit) → Some overallWord (overallAnswer b earlier v)
+unfolding overallBy overallAnswer
+some-overall b earlier v =
+    let target = targetAnswer b earlier v in
+    let nontarget = statusWord (v .status) in
+    pick-some overallWord (not (b .assessed)) _ _ (O.NE, refl)
+    (pick-some overallWord (either (v .newLesion) (either (isPD target) (isPD nontarget))) _ _ (O.PD, refl)
     (some-at (getD grid (rowOf target) []) (columnOf nontarget) (row-at grid (rowOf target) all-rows)))
 
-some-change : (e : Enrolment) (measured : List Bool) (sizes : List ℕ) → Some changeValues (changeOf (e .baseline) measured sizes)
+some-change : (b : BaselineDisease) (v : Visit) → Some changeValues (changeOf b v)
 unfolding changeOf changeBetween
-some-change e measured sizes =
-    pick-some changeValues
-    (either (eqb (e .baseline .count) 0) (either (not (allMeasured (e .baseline .count) measured)) (eqb (e .baseline .sum) 0))) _ _ (C.Absent, refl)
-    (go (both (ltb (measuredSum measured sizes) (e .baseline .sum)) (ltb 0 (roundedChange (e .baseline .sum) (measuredSum measured sizes)))))
+some-change b v =
+    let sum = measuredSum (v .measured) (v .sizes) in
+    pick-some changeValues (either (eqb (b .count) 0) (either (not (allMeasured (b .count) (v .measured))) (eqb (b .sum) 0))) _ _ (C.Absent, refl)
+    (go (roundedChange (b .sum) sum) (both (ltb sum (b .sum)) (ltb 0 (roundedChange (b .sum) sum))))
   where
-    go : (x : Bool) → Some changeValues (signed x (roundedChange (e .baseline .sum) (measuredSum measured sizes)))
-    go true = (C.Decrease (roundedChange (e .baseline .sum) (measuredSum measured sizes)), refl)
-    go false = (C.Increase (roundedChange (e .baseline .sum) (measuredSum measured sizes)), refl)
+    go : (n : ℕ) (x : Bool) → Some changeValues (signed x n)
+    go n true = (C.Decrease n, refl)
+    go n false = (C.Increase n, refl)
 
 some-responses : (e : Enrolment) (f : FollowUp) (day : StudyDay) (v : VisitEntry) (measured : List Bool) (sizes : List ℕ) →
     Some responseValues (lineOn e f day v measured sizes)
 unfolding answerOn
 some-responses e f day v measured sizes =
-    let target = some-target e f measured sizes in
-    let overall = some-overall (e .baseline .assessed) (v .newlesion) (targetAnswer (e .baseline) (f .earlier) measured sizes) (statusWord (v .status)) in
-    let change = some-change e measured sizes in (
+    let target = some-target (e .baseline) (f .earlier) (visitOf v measured sizes) in
+    let overall = some-overall (e .baseline) (f .earlier) (visitOf v measured sizes) in
+    let change = some-change (e .baseline) (visitOf v measured sizes) in (
       record { day = day; target = target .0; nontarget = v .status; overall = overall .0; change = change .0 },
       λ i. record { day = day .0; target = target .1 i; nontarget = statusWord (v .status); overall = overall .1 i; change = change .1 i },
     )

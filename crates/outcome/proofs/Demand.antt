@@ -27,7 +27,7 @@ use Rattle.placing.specs.declared.AddAnswer.{AddAnswer}
 use Rattle.placing.specs.Lines.{addResponses}
 use Rattle.placing.specs.Refusals.{addNumber}
 use Rattle.placing.specs.Promises.{responsesBy, subjectBy, refusalHeld, Added}
-use Rattle.held.proofs.Follows.{summary}
+use Rattle.held.specs.Summary.{summary}
 use Rattle.opening.proofs.Follows.{baselineOf, opening-follows}
 use Rattle.opening.specs.declared.OpenAnswer.{OpenAnswer}
 use Rattle.outcome.specs.declared.OutcomeAnswer.{OutcomeAnswer}

@@ -1,7 +1,7 @@
 -- Adding and reading follow the list of the records: on what is held after a list, adding gives what the longer list holds, or refuses as the list
 -- does, and the outcome read is the paper's outcome of the list.
 -- Assumes nothing.
-use mathlib.Core.Path.{_≡_, ap}
+use mathlib.Core.Path.{_≡_, sym, _∙_, ap}
 use mathlib.Core.Bool.{true, false}
 use mathlib.Core.List.{[], _∷_}
 use lib.Dec.{eqb}
@@ -11,18 +11,21 @@ use Rattle.dates.specs.declared.Date.{Date}
 use Rattle.records.specs.declared.Record.{Record}
 use Rattle.endpoints.specs.Values.{isRecorded, dayValue}
 use Rattle.endpoints.specs.StudyRecords.{Baseline, StudyRecord, onStudyDay}
-use Rattle.endpoints.specs.Lawful.{Past, latestDay, deathDay, lawfulBehind}
-use Rattle.endpoints.specs.Visits.{therapyRecorded, judged, firstPD, progression, counting}
+use Rattle.endpoints.specs.Lawful.{Past, deathDay, lawfulBehind}
+use Rattle.endpoints.specs.Course.{Course, course, deathIn, therapyIn, visitsIn, firstPD, progression, counting}
 use Rattle.endpoints.specs.Pfs.{beforeEvent, lastVisit, lastEvaluable, pfsOf, pfs}
 use Rattle.endpoints.specs.Best.{confirmedCR, confirmedResponse, stable, best, firstResponse, durationOf, duration}
 use Rattle.endpoints.specs.Lines.{linesOf}
 use Rattle.endpoints.specs.Settled.{pfsSettledBy, bestSettledBy, durationSettledBy, pfsSettled, bestSettled, durationSettled, outcome}
 use Rattle.endpoints.specs.Adding.{refusalBehind, afterOwn}
+use Rattle.endpoints.proofs.Behind.{latest-in, death-in}
 use Rattle.endpoints.proofs.Refusals.{one-more}
 use Rattle.endpoints.proofs.Calls.{none-of-both}
 use Rattle.held.specs.declared.Subject.{Subject}
 use Rattle.held.specs.Range.{inRange}
-use Rattle.held.proofs.Follows.{maybe, day-of-maybe, eventOf, countedOf, best-of-held, summary}
+use Rattle.held.specs.Days.{maybe}
+use Rattle.held.specs.Summary.{eventOf, countedOf, summary}
+use Rattle.held.proofs.Follows.{day-of-maybe, best-of-held}
 use Rattle.placing.specs.Promises.{responsesBy, subjectBy, refusalHeld}
 use Rattle.placing.proofs.Follows.{refusal-follows, lines-follow, adding-follows}
 use Rattle.outcome.specs.Promises.{pfsHeld, bestHeld, durationHeld, pfsSettledHeld, bestSettledHeld, outcomeOf}
@@ -57,34 +60,38 @@ module _ (randomisation : Date) (b : Baseline) (p : Past) where
 
   -- ---- the parts of the outcome and the marks
 
-  progression-held : dayValue (maybe (progression b p)) ≡ progression b p
-  progression-held = day-of-maybe (progression b p)
+  abbrev c : Course
+  c = course b p
 
-  death-held : dayValue (maybe (deathDay p)) ≡ deathDay p
-  death-held = day-of-maybe (deathDay p)
+  progression-held : dayValue (maybe (progression c)) ≡ progression c
+  progression-held = day-of-maybe (progression c)
 
-  pub pfs-held : pfsHeld held ≡ pfs b p
+  death-held : dayValue (maybe (deathDay p)) ≡ deathIn c
+  death-held = day-of-maybe (deathDay p) ∙ sym (death-in b p)
+
+  pub pfs-held : pfsHeld held ≡ pfs c
   unfolding summary eventOf pfs
   pfs-held =
-      let evaluable = day-of-maybe (lastEvaluable (beforeEvent (judged b p))) in
-      λ i. pfsOf (progression-held i) (death-held i) (lastVisit (beforeEvent (judged b p))) (evaluable i)
+      let evaluable = day-of-maybe (lastEvaluable (beforeEvent (visitsIn c))) in
+      λ i. pfsOf (progression-held i) (death-held i) (lastVisit (beforeEvent (visitsIn c))) (evaluable i)
 
-  best-held : bestHeld held ≡ best b p
+  best-held : bestHeld held ≡ best c
   unfolding summary countedOf best
-  best-held =
-      best-of-held (confirmedCR (counting b p)) (confirmedResponse (counting b p)) (stable (counting b p)) (isRecorded (firstPD (counting b p)))
+  best-held = best-of-held (confirmedCR (counting c)) (confirmedResponse (counting c)) (stable (counting c)) (isRecorded (firstPD (counting c)))
 
-  pub duration-held : durationHeld held ≡ duration b p
+  pub duration-held : durationHeld held ≡ duration c
   unfolding summary countedOf duration
-  duration-held = let response = day-of-maybe (firstResponse (counting b p)) in λ i. durationOf (best-held i) (response i) (pfs-held i)
+  duration-held = let response = day-of-maybe (firstResponse (counting c)) in λ i. durationOf (best-held i) (response i) (pfs-held i)
 
-  pfs-mark-held : pfsSettledHeld held ≡ pfsSettled b p
+  pfs-mark-held : pfsSettledHeld held ≡ pfsSettled (b .assessed) c
   unfolding summary eventOf pfsSettled
-  pfs-mark-held = λ i. pfsSettledBy (b .assessed) (isRecorded (progression-held i)) (isRecorded (death-held i)) (latestDay p)
+  pfs-mark-held =
+      let latest = sym (latest-in b p) in
+      λ i. pfsSettledBy (b .assessed) (isRecorded (progression-held i)) (isRecorded (death-held i)) (latest i)
 
-  best-mark-held : bestSettledHeld held ≡ bestSettled b p
+  best-mark-held : bestSettledHeld held ≡ bestSettled (b .assessed) c
   unfolding summary eventOf bestSettled
-  best-mark-held = λ i. bestSettledBy (isRecorded (progression-held i)) (therapyRecorded p) (isRecorded (death-held i)) (b .assessed) (best-held i)
+  best-mark-held = λ i. bestSettledBy (isRecorded (progression-held i)) (therapyIn c) (isRecorded (death-held i)) (b .assessed) (best-held i)
 
   pub outcome-held : outcomeOf held ≡ outcome b p
   unfolding outcomeOf durationSettled

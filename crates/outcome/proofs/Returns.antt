@@ -48,7 +48,7 @@ module _ (d : DurationAnswer) (pfs best : Bool) where
 -- ---- reading
 
 pub parts-read : (s : Subject) (p : PfsResult) (d : DurationAnswer) (progressed dead pfs best duration : Bool) →
-    pfsValues p ≡ pfsHeld s → durationValues d ≡ durationOf (bestHeld s) (dayValue (s .followup .counted .first)) (pfsValues p) →
+    pfsValues p ≡ pfsHeld s → durationValues d ≡ durationOf (bestHeld s) (dayValue (s .followup .counted .firstresponse)) (pfsValues p) →
     progressed ≡ isRecorded (dayValue (s .followup .event .progression)) → dead ≡ isRecorded (dayValue (s .followup .death)) →
     pfs ≡ pfsSettledBy (s .enrolment .baseline .assessed) progressed dead (s .followup .latest .0) →
     best ≡ bestSettledBy progressed (s .followup .therapy) dead (s .enrolment .baseline .assessed) (bestHeld s) →

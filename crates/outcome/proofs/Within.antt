@@ -118,8 +118,8 @@ unfolding outcomeOf
 tells-within s w =
     let f = s .followup in
     let v = w .followup in
-    let p = pfs-within (f .event .progression) (f .death) (f .event .previous .0) (f .event .evaluable) (v .event .progression) (v .death) (v .event .evaluable) in
-    (p, duration-within (bestHeld s) (f .counted .first) (pfsHeld s) (v .counted .first) p)
+    let p = pfs-within (f .event .progression) (f .death) (f .event .lastvisit .0) (f .event .lastevaluable) (v .event .progression) (v .death) (v .event .lastevaluable) in
+    (p, duration-within (bestHeld s) (f .counted .firstresponse) (pfsHeld s) (v .counted .firstresponse) p)
 
 -- what stands beside a refusal, by its number
 module _ {s t : Subject} {r : Record} {n : ℕ} {a : AddAnswer} (w : Answered s r n a t) (z : addNumber a ≡ 0 → ⊥) where

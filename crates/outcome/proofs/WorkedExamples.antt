@@ -7,12 +7,13 @@ use Rattle.dates.specs.Answers.{studyDayOf}
 use Rattle.records.specs.Refusals.{wrongSize, largeMeasured, setBeyond, sizedUnmeasured, withoutDisease, outsideLimits, notZero, refusalOfRead}
 use Rattle.criteria.specs.Sums.{measuredSum, baselineSum, allMeasured}
 use Rattle.criteria.specs.Targets.{allGone, grown, shrunk, targetAnswer}
-use Rattle.criteria.specs.Nadir.{nadirOf, afterVisit}
-use Rattle.criteria.specs.Overall.{overallAnswer}
+use Rattle.criteria.specs.Nadir.{afterVisit}
+use Rattle.criteria.specs.Overall.{overallBy}
+use Rattle.criteria.specs.Visits.{overallAnswer}
 use Rattle.criteria.specs.Change.{changeBetween, changeOf}
 use Rattle.endpoints.specs.Lines.{lineOf}
 use Rattle.endpoints.specs.Lawful.{measuredBeyond, fitsBy, fits}
-use Rattle.endpoints.specs.Visits.{judge}
+use Rattle.endpoints.specs.Course.{answerAt}
 use Rattle.endpoints.specs.Pfs.{gapLimit, earlyDeath, pfs}
 use Rattle.endpoints.specs.Best.{best, duration}
 use Rattle.endpoints.specs.Settled.{settledFrom, pfsSettledBy, bestSettledBy, durationSettledBy, pfsSettled, bestSettled, durationSettled}
@@ -27,7 +28,7 @@ use Rattle.outcome.specs.Promises.{outcomeOf, readingOf}
 use Rattle.outcome.specs.Examples.{FirstRefusals, ReadAtTheEdges, RepliesAtTheEdges, ValuesOfCases}
 
 pub first-refusals : FirstRefusals
-unfolding leapYear daysInMonth dateExists daysOfYears daysOfMonths dayNumber studyDayOf wrongSize largeMeasured setBeyond sizedUnmeasured withoutDisease outsideLimits notZero refusalOfRead measuredSum allMeasured allGone grown shrunk targetAnswer afterVisit overallAnswer measuredBeyond fitsBy enrolmentInRange followUpInRange inRange eventAfter countedAfter blank answerOn visitAdded refusalOn refusalHeld readingOf
+unfolding leapYear daysInMonth dateExists daysOfYears daysOfMonths dayNumber studyDayOf wrongSize largeMeasured setBeyond sizedUnmeasured withoutDisease outsideLimits notZero refusalOfRead measuredSum allMeasured allGone grown shrunk targetAnswer afterVisit overallBy overallAnswer measuredBeyond fitsBy enrolmentInRange followUpInRange inRange eventAfter countedAfter blank answerOn visitAdded refusalOn refusalHeld readingOf
 first-refusals =
     record {
       outOfRange = refl;
@@ -62,7 +63,7 @@ read-at-the-edges =
     }
 
 pub replies-at-the-edges : RepliesAtTheEdges
-unfolding leapYear daysInMonth dateExists daysOfYears daysOfMonths dayNumber studyDayOf wrongSize largeMeasured setBeyond sizedUnmeasured withoutDisease outsideLimits notZero refusalOfRead measuredSum baselineSum allMeasured allGone grown shrunk targetAnswer nadirOf overallAnswer measuredBeyond fitsBy fits judge gapLimit earlyDeath pfs best duration settledFrom pfsSettledBy bestSettledBy durationSettledBy pfsSettled bestSettled durationSettled refusalBehind refusalOfAdding changeBetween changeOf lineOf
+unfolding leapYear daysInMonth dateExists daysOfYears daysOfMonths dayNumber studyDayOf wrongSize largeMeasured setBeyond sizedUnmeasured withoutDisease outsideLimits notZero refusalOfRead measuredSum baselineSum allMeasured allGone grown shrunk targetAnswer afterVisit overallBy overallAnswer measuredBeyond fitsBy fits answerAt gapLimit earlyDeath pfs best duration settledFrom pfsSettledBy bestSettledBy durationSettledBy pfsSettled bestSettled durationSettled refusalBehind refusalOfAdding changeBetween changeOf lineOf
 replies-at-the-edges = record { replied = refl }
 
 pub values-of-cases : ValuesOfCases

@@ -8,7 +8,7 @@ use Prim.Native.Nat.{ℕ}
 use Rattle.records.specs.declared.Record.{Record}
 use Rattle.records.specs.Form.{Five}
 use Rattle.endpoints.specs.Values.{Outcome}
-use Rattle.endpoints.specs.StudyRecords.{Baseline, StudyRecord, baseline, visit, therapy, death, onStudyDays}
+use Rattle.endpoints.specs.StudyRecords.{Baseline, StudyRecord, onStudyDays, fromBaseline}
 use Rattle.endpoints.specs.Lawful.{lawful}
 use Rattle.endpoints.specs.Lasting.{outcomeInOrder, LastsInOrder}
 use Rattle.endpoints.specs.Lines.{VisitLine}
@@ -41,11 +41,7 @@ pub data Calls : Subject → List Call → List Reply → Subject → Type 0 whe
 -- the paper's outcome of a list of records in the order recorded; every list of accepted records opens with a baseline, and for any other the value is a
 -- refusal by 7, which no reading gives
 abbrev pub outcomeOn : List StudyRecord → Reading
-outcomeOn [] = refused 7
-outcomeOn (baseline b ∷ rs) = outcome (outcomeInOrder b rs)
-outcomeOn (visit d v ∷ rs) = refused 7
-outcomeOn (therapy d ∷ rs) = refused 7
-outcomeOn (death d ∷ rs) = refused 7
+outcomeOn = fromBaseline (refused 7) (λ (b : Baseline) (rs : List StudyRecord). outcome (outcomeInOrder b rs))
 
 -- the replies from the calls' arguments alone: done, with a visit's responses behind the records accepted so far, or the first refusal judged against them;
 -- their outcome with its marks
@@ -77,11 +73,7 @@ pub record Says (said : Outcome) (b : Baseline) (rs : List StudyRecord) : Type 0
 -- of a reading's values and a list of records: no refusal, the list opens with a baseline, and the outcome says what it should
 abbrev pub SaysOn : Reading → List StudyRecord → Type 0
 SaysOn (refused n) rs = ⊥
-SaysOn (outcome said) [] = ⊥
-SaysOn (outcome said) (baseline b ∷ rs) = Says said b rs
-SaysOn (outcome said) (visit d v ∷ rs) = ⊥
-SaysOn (outcome said) (therapy d ∷ rs) = ⊥
-SaysOn (outcome said) (death d ∷ rs) = ⊥
+SaysOn (outcome said) rs = fromBaseline ⊥ (Says said) rs
 
 -- of a reading's answer and the records accepted, baseline first
 abbrev pub Claim : OutcomeAnswer → List Record → Type 0

@@ -38,14 +38,14 @@ readingValues (A.Read o) = outcome (outcomeValues o)
 -- the parts and the marks from what is held
 abbrev pub pfsHeld : Subject → Pfs
 pfsHeld s =
-    pfsOf (dayValue (s .followup .event .progression)) (dayValue (s .followup .death)) (s .followup .event .previous .0)
-    (dayValue (s .followup .event .evaluable))
+    pfsOf (dayValue (s .followup .event .progression)) (dayValue (s .followup .death)) (s .followup .event .lastvisit .0)
+    (dayValue (s .followup .event .lastevaluable))
 
 abbrev pub bestHeld : Subject → Word
 bestHeld s = bestWord (s .followup .counted .best)
 
 abbrev pub durationHeld : Subject → Duration
-durationHeld s = durationOf (bestHeld s) (dayValue (s .followup .counted .first)) (pfsHeld s)
+durationHeld s = durationOf (bestHeld s) (dayValue (s .followup .counted .firstresponse)) (pfsHeld s)
 
 abbrev pub pfsSettledHeld : Subject → Bool
 pfsSettledHeld s =

@@ -19,11 +19,11 @@ fn outcome_of(s: Subject) -> OutcomeResult
     let death = followup.death;
     let event = followup.event;
     let progression = event.progression;
-    let evaluable = event.evaluable;
+    let evaluable = event.lastevaluable;
     let counted = followup.counted;
-    let first = counted.first;
+    let first = counted.firstresponse;
     let best = counted.best;
-    let pfs = pfs_of(progression, death, event.previous, evaluable);
+    let pfs = pfs_of(progression, death, event.lastvisit, evaluable);
     let duration = duration_of(best, first, pfs);
     let progressed = is_recorded(progression);
     let dead = is_recorded(death);

@@ -11,19 +11,21 @@ use Rattle.dates.specs.declared.Date.{Date}
 use Rattle.records.specs.declared.Entry.{Entry}
 use Rattle.records.specs.declared.Entry.the-variants as E
 use Rattle.records.specs.Form.{dateOf}
-use Rattle.criteria.specs.Inputs.{Visit}
-use Rattle.criteria.proofs.Laws.{nadir-laws}
+use Rattle.criteria.specs.Inputs.{visitOf}
+use Rattle.criteria.specs.Nadir.{leftBy}
 use Rattle.endpoints.specs.Values.{Day, on, isRecorded, _orElse_}
 use Rattle.endpoints.specs.StudyRecords.{Baseline, disease, studyDay, entryOnStudyDay}
 use Rattle.endpoints.specs.Lawful.{Past, deathDay, fits, lawfulBehind}
-use Rattle.endpoints.specs.Visits.{visitsOf, therapyRecorded, Judged, judge, judged, progression, countingClosed, counting}
+use Rattle.endpoints.specs.Course.{Course, visitsOf, Judged, answerAt, judge, course, therapyIn, visitsIn, progression, countingClosed, counting}
 use Rattle.endpoints.specs.Lines.{lineOf, linesOf}
 use Rattle.endpoints.specs.Adding.{refusalBehind}
 use Rattle.endpoints.proofs.Behind.{absent, next, latest-is-last}
 use Rattle.held.specs.declared.Subject.{Subject}
+use Rattle.held.specs.Days.{at, maybe}
 use Rattle.held.specs.Visits.{countedAfter}
+use Rattle.held.specs.Summary.{eventOf, countedOf, summary}
 use Rattle.held.proofs.Ordered.{Falling, counting-falls}
-use Rattle.held.proofs.Follows.{at, maybe, day-of-maybe, eventOf, countedOf, event-follows, counted-follows, summary}
+use Rattle.held.proofs.Follows.{day-of-maybe, event-follows, counted-follows}
 use Rattle.placing.specs.Added.{heldDay, answerOn, visitAdded, later, therapyAdded, deathAdded, entryAdded}
 use Rattle.placing.specs.Lines.{linesOn}
 use Rattle.placing.specs.Refusals.{refusalOn}
@@ -42,40 +44,40 @@ module _ (randomisation : Date) (b : Baseline) (p : Past) where
 
   pub lines-follow : (e : Entry) (marks : List Bool) (sizes : List ℕ) →
       linesOn (held .enrolment) (held .followup) (heldDay randomisation (dateOf e)) e marks sizes ≡ linesOf b p (entryOnStudyDay randomisation e marks sizes)
-  unfolding summary answerOn lineOf
+  unfolding summary answerOn answerAt lineOf
   lines-follow (E.Baseline x) marks sizes = refl
   lines-follow (E.Visit v) marks sizes = refl
   lines-follow (E.Therapy d) marks sizes = refl
   lines-follow (E.Death d) marks sizes = refl
 
-  counted-unless-closed : (x y : Bool) (j : Judged) → x ≡ y → Falling (counting b p) →
-      pick x (countedOf (counting b p)) (countedAfter (countedOf (counting b p)) (at (j .day)) (j .answer)) ≡ countedOf (pick y (counting b p) (j ∷ counting b p))
+  abbrev c : Course
+  c = course b p
+
+  counted-unless-closed : (x y : Bool) (j : Judged) → x ≡ y → Falling (counting c) →
+      pick x (countedOf (counting c)) (countedAfter (countedOf (counting c)) j) ≡ countedOf (pick y (counting c) (j ∷ counting c))
   counted-unless-closed x y j e s = rw e (go y)
     where
-      go : (y : Bool) →
-          pick y (countedOf (counting b p)) (countedAfter (countedOf (counting b p)) (at (j .day)) (j .answer)) ≡ countedOf (pick y (counting b p) (j ∷ counting b p))
+      go : (y : Bool) → pick y (countedOf (counting c)) (countedAfter (countedOf (counting c)) j) ≡ countedOf (pick y (counting c) (j ∷ counting c))
       go true = refl
-      go false = counted-follows j (counting b p) s
+      go false = counted-follows j (counting c) s
 
   pub adding-follows : (e : Entry) (marks : List Bool) (sizes : List ℕ) → lawfulBehind b (entryOnStudyDay randomisation e marks sizes ∷ p) ≡ true →
       _≡_ {A = Subject}
       (record { enrolment = held .enrolment; followup = entryAdded (held .enrolment) (held .followup) (heldDay randomisation (dateOf e)) e marks sizes })
       (summary randomisation b (entryOnStudyDay randomisation e marks sizes ∷ p))
-  unfolding summary visitAdded therapyAdded deathAdded answerOn judge eventOf
+  unfolding summary visitAdded therapyAdded deathAdded answerOn answerAt eventOf
   adding-follows (E.Baseline x) marks sizes l = absurd (never (sym (next b p (entryOnStudyDay randomisation (E.Baseline x) marks sizes) l .place)))
   adding-follows (E.Visit v) marks sizes l =
       let r = entryOnStudyDay randomisation (E.Visit v) marks sizes in
-      let visited : Visit = record { status = v .status; newLesion = v .newlesion; measured = marks; sizes = sizes } in
-      let j = judge b p (studyDay randomisation (v .date)) visited in
-      let closed = ap (λ (x : Day). either (therapyRecorded p) (isRecorded x)) (day-of-maybe (progression b p)) in
-      let earlier = sym (nadir-laws .oneMore (disease b) (visitsOf p) visited) in
+      let j = judge b p (studyDay randomisation (v .date)) (visitOf v marks sizes) in
+      let closed = ap (λ (x : Day). either (therapyIn c) (isRecorded x)) (day-of-maybe (progression c)) in
       let latest = ap at (sym (latest-is-last b p r l)) in
-      let event = event-follows j (judged b p) in
-      let counted = counted-unless-closed _ (countingClosed b p) j closed (counting-falls b p (next b p r l .before)) in
+      let event = event-follows j (visitsIn c) in
+      let counted = counted-unless-closed _ (countingClosed c) j closed (counting-falls b p (next b p r l .before)) in
       λ i.
       record {
         enrolment = held .enrolment;
-        followup = record { earlier = earlier i; latest = latest i; therapy = therapyRecorded p; death = maybe (deathDay p); event = event i; counted = counted i };
+        followup = record { earlier = leftBy (disease b) (visitsOf (r ∷ p)); latest = latest i; therapy = therapyIn c; death = maybe (deathDay p); event = event i; counted = counted i };
       }
   adding-follows (E.Therapy d) marks sizes l =
       let latest = ap at (sym (latest-is-last b p (entryOnStudyDay randomisation (E.Therapy d) marks sizes) l)) in
@@ -84,4 +86,4 @@ module _ (randomisation : Date) (b : Baseline) (p : Past) where
       let r = entryOnStudyDay randomisation (E.Death d) marks sizes in
       let latest = ap at (sym (latest-is-last b p r l)) in
       let death = ap (λ (x : Day). maybe (x orElse on (studyDay randomisation d))) (sym (absent (deathDay p) (next b p r l .alive))) in
-      λ i. record { enrolment = held .enrolment; followup = later (held .followup) (latest i) (therapyRecorded p) (death i) }
+      λ i. record { enrolment = held .enrolment; followup = later (held .followup) (latest i) (therapyIn c) (death i) }

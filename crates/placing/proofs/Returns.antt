@@ -17,13 +17,14 @@ use Rattle.records.specs.declared.Entry.the-variants as E
 use Rattle.records.specs.declared.BaselineEntry.{BaselineEntry}
 use Rattle.records.specs.declared.VisitEntry.{VisitEntry}
 use Rattle.records.specs.Form.{statusNumber}
-use Rattle.criteria.specs.declared.Overall.{Overall}
 use Rattle.criteria.specs.Words.{targetWord, statusWord, overallWord}
+use Rattle.criteria.specs.Inputs.{visitOf}
 use Rattle.criteria.specs.Change.{changeValues}
 use Rattle.response.specs.declared.VisitAnswer.{VisitAnswer}
 use Rattle.response.specs.Judging.{JudgesVisit}
 use Rattle.endpoints.specs.Values.{isRecorded, dayValue}
 use Rattle.endpoints.specs.Lawful.{measuredBeyond, fitsBy}
+use Rattle.endpoints.specs.Course.{Judged}
 use Rattle.endpoints.specs.Lines.{VisitLine}
 use Rattle.held.specs.declared.CountingVisits.{CountingVisits}
 use Rattle.held.specs.declared.EventDays.{EventDays}
@@ -35,7 +36,7 @@ use Rattle.placing.specs.declared.AddAnswer.the-variants as A
 use Rattle.placing.specs.declared.Dated.{Dated}
 use Rattle.placing.specs.declared.Step.{Step}
 use Rattle.placing.specs.declared.VisitResponse.{VisitResponse}
-use Rattle.placing.specs.Added.{answerOn, answerAdded, visitAdded, therapyAdded, deathAdded}
+use Rattle.placing.specs.Added.{answerOn, judgedAdded, visitAdded, therapyAdded, deathAdded}
 use Rattle.placing.specs.Lines.{responseValues, addResponses}
 use Rattle.placing.specs.Refusals.{addNumber, refusalBy, refusalOn, firstRefusal}
 use Rattle.placing.specs.Stepping.{StepsBy, Steps, StepsLater}
@@ -83,15 +84,14 @@ module _ (x y a : Bool) (p : a ≡ x) where
 
 -- ---- the follow-up after a visit
 
-pub counted-or-closed : (closed : Bool) (c r : CountingVisits) (d : StudyDay) (answer : Overall) → closed ≡ false →
-    r ≡ countedAfter c d (overallWord answer) → r ≡ pick closed c (countedAfter c d (overallWord answer))
-counted-or-closed closed c r d answer q h = h ∙ rw q
+pub counted-or-closed : (closed : Bool) (c r : CountingVisits) (j : Judged) → closed ≡ false → r ≡ countedAfter c j → r ≡ pick closed c (countedAfter c j)
+counted-or-closed closed c r j q h = h ∙ rw q
 
 pub visit-made : (f : FollowUp) (day : StudyDay) (a : VisitAnswer) (x : Bool) (e : EventDays) (c : CountingVisits) →
-    x ≡ isRecorded (dayValue (f .event .progression)) → e ≡ eventAfter (f .event) day (overallWord (a .overall)) →
-    c ≡ pick (f .therapy || x) (f .counted) (countedAfter (f .counted) day (overallWord (a .overall))) →
+    x ≡ isRecorded (dayValue (f .event .progression)) → e ≡ eventAfter (f .event) (record { day = day .0; answer = overallWord (a .overall) }) →
+    c ≡ pick (f .therapy || x) (f .counted) (countedAfter (f .counted) (record { day = day .0; answer = overallWord (a .overall) })) →
     record { earlier = a .after; latest = day; therapy = f .therapy; death = f .death; event = e; counted = c }
-    ≡ answerAdded f day (a .after) (overallWord (a .overall))
+    ≡ judgedAdded f (a .after) (record { day = day .0; answer = overallWord (a .overall) })
 visit-made f day a x e c p q r = rw (q, r, p)
 
 -- ---- the first refusal
@@ -131,8 +131,8 @@ no-responses A.Misfit n q = refl
 no-responses A.OutOfRange n q = refl
 
 pub visit-placed : (e : Enrolment) (f next : FollowUp) (day : StudyDay) (v : VisitEntry) (measured : List Bool) (sizes : List ℕ) (a : VisitAnswer) (r : VisitResponse) →
-    JudgesVisit (e .baseline) (f .earlier) v measured sizes a →
-    next ≡ answerAdded f day (a .after) (overallWord (a .overall)) →
+    JudgesVisit (e .baseline) (f .earlier) (visitOf v measured sizes) a →
+    next ≡ judgedAdded f (a .after) (record { day = day .0; answer = overallWord (a .overall) }) →
     responseValues r
     ≡ record { day = day .0; target = targetWord (a .target); nontarget = statusWord (v .status); overall = overallWord (a .overall); change = changeValues (a .change) } →
     StepsBy e f day (E.Visit v) measured sizes 0 (record { followup = next; answer = A.Judged r })
@@ -142,7 +142,7 @@ visit-placed e f next day v measured sizes a r w n l =
       answer = refl;
       responses = ap (λ x. x ∷ []) l ∙ (λ i. record { day = day .0; target = w .target i; nontarget = statusWord (v .status); overall = w .overall i; change = w .change i } ∷ []);
       left =
-          n ∙ (λ i. answerAdded f day (w .after i) (w .overall i));
+          n ∙ (λ i. judgedAdded f (w .after i) (record { day = day .0; answer = w .overall i }));
     }
 
 refused-by : {e : Enrolment} {f : FollowUp} {day : StudyDay} {r : Entry} {marks : List Bool} {sizes : List ℕ} {x : Step} (a : AddAnswer) (n m : ℕ) → addNumber a ≡ m →

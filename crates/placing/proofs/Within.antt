@@ -19,11 +19,14 @@ use Rattle.records.specs.declared.Entry.the-variants as E
 use Rattle.records.specs.Form.{dateOf, kindNumber}
 use Rattle.criteria.specs.Sums.{measuredSum, allMeasured}
 use Rattle.criteria.specs.Nadir.{afterVisit}
+use Rattle.criteria.specs.Inputs.{Visit, visitOf}
+use Rattle.criteria.specs.declared.BaselineDisease.{BaselineDisease}
 use Rattle.criteria.specs.declared.Earlier.{Earlier}
 use Rattle.endpoints.specs.declared.MaybeDay.{MaybeDay}
 use Rattle.endpoints.specs.declared.MaybeDay.the-variants as M
 use Rattle.endpoints.specs.Values.{isRecorded, dayValue}
 use Rattle.endpoints.specs.StudyRecords.{studyDay}
+use Rattle.endpoints.specs.Course.{Judged}
 use Rattle.held.specs.declared.Enrolment.{Enrolment}
 use Rattle.held.specs.declared.FollowUp.{FollowUp}
 use Rattle.held.specs.declared.CountingVisits.{CountingVisits}
@@ -57,12 +60,11 @@ not-early : (e : Enrolment) (f : FollowUp) (day : StudyDay) (r : Entry) (marks :
 unfolding refusalOn
 not-early e f day r marks q = in-time (eqb (kindNumber r) 1) (isRecorded (dayValue (f .death))) (earlyOn f day r) (misfitOn e r marks) q
 
-nadir-least : (count : ℕ) (earlier : Earlier) (measured : List Bool) (sizes : List ℕ) →
-    afterVisit count earlier measured sizes .nadir ≤ earlier .nadir
+nadir-least : (b : BaselineDisease) (earlier : Earlier) (v : Visit) → afterVisit b earlier v .nadir ≤ earlier .nadir
 unfolding afterVisit
-nadir-least count earlier measured sizes = go (allMeasured count measured)
+nadir-least b earlier v = go (allMeasured (b .count) (v .measured))
   where
-    go : (x : Bool) → pick x (min (measuredSum measured sizes) (earlier .nadir)) (earlier .nadir) ≤ earlier .nadir
+    go : (x : Bool) → pick x (min (measuredSum (v .measured) (v .sizes)) (earlier .nadir)) (earlier .nadir) ≤ earlier .nadir
     go true = omega arith
     go false = omega arith
 
@@ -87,16 +89,15 @@ adding-within e f (E.Visit v) marks sizes w r =
     let behind = leb-false (studyDay (e .randomisation) (v .date)) (f .latest .0) (not-early e f (heldDay (e .randomisation) (v .date)) (E.Visit v) marks r) in
     let from = w .latest .0 in
     let day : Within (studyDay (e .randomisation) (v .date)) = (omega arith, most) in
-    let held = heldDay (e .randomisation) (v .date) in
-    let answer = answerOn e f v marks sizes in
-    let least = nadir-least (e .baseline .count) (f .earlier) marks sizes in
+    let j : Judged = record { day = studyDay (e .randomisation) (v .date); answer = answerOn e f v marks sizes } in
+    let least = nadir-least (e .baseline) (f .earlier) (visitOf v marks sizes) in
     let nadir = w .nadir in
     record {
       nadir = omega arith;
       latest = day;
       death = w .death;
-      event = event-within held day (f .event) answer (w .event);
-      counted = counted-or-not (closedOn f) (counted-within held day (f .counted) answer (w .counted));
+      event = event-within j day (f .event) (w .event);
+      counted = counted-or-not (closedOn f) (counted-within j day (f .counted) (w .counted));
     }
   where
     counted-or-not : {c : CountingVisits} (x : Bool) → CountedWithin c → CountedWithin (pick x (f .counted) c)

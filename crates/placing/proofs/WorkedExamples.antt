@@ -10,7 +10,8 @@ use Rattle.codec.specs.Reading.{statusFrom, baselineIn, visitIn, spareIn, rawIn
 use Rattle.criteria.specs.Sums.{measuredSum, allMeasured}
 use Rattle.criteria.specs.Targets.{allGone, grown, shrunk, targetAnswer}
 use Rattle.criteria.specs.Nadir.{afterVisit}
-use Rattle.criteria.specs.Overall.{overallAnswer}
+use Rattle.criteria.specs.Overall.{overallBy}
+use Rattle.criteria.specs.Visits.{overallAnswer}
 use Rattle.criteria.specs.Change.{changeBetween, changeOf}
 use Rattle.endpoints.specs.Lawful.{measuredBeyond, fitsBy}
 use Rattle.held.specs.Range.{enrolmentInRange, followUpInRange, inRange}
@@ -43,7 +44,7 @@ first-refusals =
     }
 
 pub added-at-the-edges : AddedAtTheEdges
-unfolding leapYear daysInMonth dateExists daysOfYears daysOfMonths dayNumber studyDayOf measuredSum allMeasured allGone grown shrunk targetAnswer afterVisit overallAnswer eventAfter countedAfter answerOn visitAdded therapyAdded deathAdded
+unfolding leapYear daysInMonth dateExists daysOfYears daysOfMonths dayNumber studyDayOf measuredSum allMeasured allGone grown shrunk targetAnswer afterVisit overallBy overallAnswer eventAfter countedAfter answerOn visitAdded therapyAdded deathAdded
 added-at-the-edges =
     record {
       visit = refl;
@@ -55,7 +56,7 @@ added-at-the-edges =
     }
 
 pub lines-at-the-edges : LinesAtTheEdges
-unfolding leapYear daysInMonth dateExists daysOfYears daysOfMonths dayNumber studyDayOf measuredSum allMeasured allGone grown shrunk targetAnswer overallAnswer changeBetween changeOf answerOn
+unfolding leapYear daysInMonth dateExists daysOfYears daysOfMonths dayNumber studyDayOf measuredSum allMeasured allGone grown shrunk targetAnswer overallBy overallAnswer changeBetween changeOf answerOn
 lines-at-the-edges = record { visit = refl; therapy = refl; death = refl; afterProgression = refl; missing = refl; newLesion = refl }
 
 pub order-by-value : OrderByValue
@@ -78,5 +79,5 @@ order-from-bytes =
     }
 
 pub beside-numbers : BesideNumbers
-unfolding leapYear daysInMonth dateExists daysOfYears daysOfMonths dayNumber studyDayOf measuredSum allMeasured allGone grown shrunk targetAnswer afterVisit overallAnswer changeBetween changeOf eventAfter countedAfter answerOn visitAdded
+unfolding leapYear daysInMonth dateExists daysOfYears daysOfMonths dayNumber studyDayOf measuredSum allMeasured allGone grown shrunk targetAnswer afterVisit overallBy overallAnswer changeBetween changeOf eventAfter countedAfter answerOn visitAdded
 beside-numbers = record { done = refl; next = refl; refused = refl; same = refl }

@@ -9,46 +9,48 @@ use Rattle.dates.specs.declared.StudyDay.{StudyDay}
 use Rattle.records.specs.declared.Entry.{Entry}
 use Rattle.records.specs.declared.Entry.the-variants as E
 use Rattle.records.specs.declared.VisitEntry.{VisitEntry}
-use Rattle.criteria.specs.Words.{Word, statusWord}
-use Rattle.criteria.specs.Targets.{targetAnswer}
+use Rattle.criteria.specs.Words.{Word}
+use Rattle.criteria.specs.Inputs.{visitOf}
 use Rattle.criteria.specs.Nadir.{afterVisit}
-use Rattle.criteria.specs.Overall.{overallAnswer}
+use Rattle.criteria.specs.Visits.{overallAnswer}
 use Rattle.criteria.specs.declared.Earlier.{Earlier}
 use Rattle.endpoints.specs.declared.MaybeDay.{MaybeDay}
 use Rattle.endpoints.specs.declared.MaybeDay.the-variants as M
 use Rattle.endpoints.specs.Values.{isRecorded, dayValue}
 use Rattle.endpoints.specs.StudyRecords.{studyDay}
+use Rattle.endpoints.specs.Course.{Judged}
 use Rattle.held.specs.declared.Enrolment.{Enrolment}
 use Rattle.held.specs.declared.FollowUp.{FollowUp}
+use Rattle.held.specs.Days.{at}
 use Rattle.held.specs.Visits.{eventAfter, countedAfter}
 
 -- the study day of a date; 0, which is no study day, where it is before randomisation or either of them does not exist
 abbrev pub heldDay : Date → Date → StudyDay
-heldDay randomisation d = record { 0 = studyDay randomisation d }
+heldDay randomisation d = at (studyDay randomisation d)
 
 -- the overall answer at a visit
 unfoldable pub answerOn : Enrolment → FollowUp → VisitEntry → List Bool → List ℕ → Word
-answerOn e f v measured sizes =
-    overallAnswer (e .baseline .assessed) (v .newlesion) (targetAnswer (e .baseline) (f .earlier) measured sizes) (statusWord (v .status))
+answerOn e f v measured sizes = overallAnswer (e .baseline) (f .earlier) (visitOf v measured sizes)
 
 -- no further visit counts
 abbrev pub closedOn : FollowUp → Bool
 closedOn f = either (f .therapy) (isRecorded (dayValue (f .event .progression)))
 
--- after a visit, from what it leaves for judging the next one and its overall answer
-abbrev pub answerAdded : FollowUp → StudyDay → Earlier → Word → FollowUp
-answerAdded f day after answer =
+-- after a visit, from what it leaves for judging the next one and the visit as judged
+abbrev pub judgedAdded : FollowUp → Earlier → Judged → FollowUp
+judgedAdded f after j =
     record {
       earlier = after;
-      latest = day;
+      latest = at (j .day);
       therapy = f .therapy;
       death = f .death;
-      event = eventAfter (f .event) day answer;
-      counted = pick (closedOn f) (f .counted) (countedAfter (f .counted) day answer);
+      event = eventAfter (f .event) j;
+      counted = pick (closedOn f) (f .counted) (countedAfter (f .counted) j);
     }
 
 unfoldable pub visitAdded : Enrolment → FollowUp → StudyDay → VisitEntry → List Bool → List ℕ → FollowUp
-visitAdded e f day v measured sizes = answerAdded f day (afterVisit (e .baseline .count) (f .earlier) measured sizes) (answerOn e f v measured sizes)
+visitAdded e f day v measured sizes =
+    judgedAdded f (afterVisit (e .baseline) (f .earlier) (visitOf v measured sizes)) (record { day = day .0; answer = answerOn e f v measured sizes })
 
 -- on a later day, with or without a therapy and a death; nothing of the visits changes
 abbrev pub later : FollowUp → StudyDay → Bool → MaybeDay → FollowUp

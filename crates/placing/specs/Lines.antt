@@ -9,6 +9,7 @@ use Rattle.records.specs.declared.Entry.{Entry}
 use Rattle.records.specs.declared.Entry.the-variants as E
 use Rattle.records.specs.declared.VisitEntry.{VisitEntry}
 use Rattle.criteria.specs.Words.{targetWord, statusWord, overallWord}
+use Rattle.criteria.specs.Inputs.{visitOf}
 use Rattle.criteria.specs.Targets.{targetAnswer}
 use Rattle.criteria.specs.Change.{changeValues, changeOf}
 use Rattle.endpoints.specs.Lines.{VisitLine}
@@ -49,10 +50,10 @@ abbrev pub lineOn : Enrolment → FollowUp → StudyDay → VisitEntry → List 
 lineOn e f day v measured sizes =
     record {
       day = day .0;
-      target = targetAnswer (e .baseline) (f .earlier) measured sizes;
+      target = targetAnswer (e .baseline) (f .earlier) (visitOf v measured sizes);
       nontarget = statusWord (v .status);
       overall = answerOn e f v measured sizes;
-      change = changeOf (e .baseline) measured sizes;
+      change = changeOf (e .baseline) (visitOf v measured sizes);
     }
 
 -- a visit has responses, and no other record

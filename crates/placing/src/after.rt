@@ -1,6 +1,6 @@
 // The follow-up after a record.
-use criteria::Overall;
 use dates::StudyDay;
+use endpoints::JudgedVisit;
 use endpoints::MaybeDay;
 use held::CountingVisits;
 use held::FollowUp;
@@ -11,20 +11,21 @@ use results::is_recorded;
 ghost use mathlib.Core.Path.{_≡_};
 ghost use Rattle.laws.specs.Choice.{pick};
 ghost use Rattle.criteria.specs.Words.{overallWord};
+ghost use Rattle.endpoints.specs.Course.{judgedValues};
 ghost use Rattle.held.specs.Visits.{countedAfter};
-ghost use Rattle.placing.specs.Added.{answerAdded, later as laterOn, therapyAdded, deathAdded};
+ghost use Rattle.placing.specs.Added.{judgedAdded, later as laterOn, therapyAdded, deathAdded};
 
-fn counted_unless(closed: bool, c: CountingVisits, day: StudyDay, answer: Overall) -> CountingVisits
-    ensures { λ r. ⌜ r ≡ pick closed c (countedAfter c day (overallWord answer)) ⌝ }
+fn counted_unless(closed: bool, c: CountingVisits, visit: JudgedVisit) -> CountingVisits
+    ensures { λ r. ⌜ r ≡ pick closed c (countedAfter c (judgedValues visit)) ⌝ }
 {
     if closed {
         return c;
     }
-    counted_after(c, day, answer)
+    counted_after(c, visit)
 }
 
 pub(crate) fn after_visit(f: FollowUp, day: StudyDay, judged: VisitAnswer) -> FollowUp
-    ensures { λ r. ⌜ r ≡ answerAdded f day (judged .after) (overallWord (judged .overall)) ⌝ }
+    ensures { λ r. ⌜ r ≡ judgedAdded f (judged .after) (record { day = day .0; answer = overallWord (judged .overall) }) ⌝ }
 {
     let death = f.death;
     let before = f.event;
@@ -33,8 +34,12 @@ pub(crate) fn after_visit(f: FollowUp, day: StudyDay, judged: VisitAnswer) -> Fo
     let answer = judged.overall;
     let after = judged.after;
     let closed = f.therapy | is_recorded(progression);
-    let event = event_after(before, day, answer);
-    let counted = counted_unless(closed, counting, day, answer);
+    let visit = JudgedVisit {
+        day: day,
+        answer: answer,
+    };
+    let event = event_after(before, visit);
+    let counted = counted_unless(closed, counting, visit);
     FollowUp {
         earlier: after,
         latest: day,

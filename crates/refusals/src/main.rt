@@ -232,12 +232,12 @@ fn late_response() {
             death: MaybeDay::Absent,
             event: EventDays {
                 progression: MaybeDay::Absent,
-                previous: StudyDay(43),
-                evaluable: MaybeDay::On(StudyDay(43)),
+                lastvisit: StudyDay(43),
+                lastevaluable: MaybeDay::On(StudyDay(43)),
             },
             counted: CountingVisits {
-                first: MaybeDay::On(StudyDay(50)),
-                start: MaybeDay::Absent,
+                firstresponse: MaybeDay::On(StudyDay(50)),
+                crstart: MaybeDay::Absent,
                 best: BestResponse::PR,
             },
         },

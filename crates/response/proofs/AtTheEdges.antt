@@ -4,12 +4,13 @@ use mathlib.Core.Path.{refl}
 use Rattle.criteria.specs.Sums.{measuredSum, baselineSum, allMeasured}
 use Rattle.criteria.specs.Targets.{allGone, grown, shrunk, targetAnswer}
 use Rattle.criteria.specs.Nadir.{afterVisit}
-use Rattle.criteria.specs.Overall.{overallAnswer}
+use Rattle.criteria.specs.Overall.{overallBy}
 use Rattle.criteria.specs.Change.{changeBetween, changeOf}
+use Rattle.criteria.specs.Visits.{overallAnswer}
 use Rattle.response.specs.Examples.{JudgedVisits}
 
 pub judged-visits : JudgedVisits
-unfolding measuredSum baselineSum allMeasured allGone grown shrunk targetAnswer afterVisit overallAnswer changeBetween changeOf
+unfolding measuredSum baselineSum allMeasured allGone grown shrunk targetAnswer afterVisit overallBy overallAnswer changeBetween changeOf
 judged-visits =
     record {
       day43 = record { target = refl; overall = refl; change = refl; after = refl };

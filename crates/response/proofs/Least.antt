@@ -2,34 +2,38 @@
 -- Assumes nothing.
 use mathlib.Core.Path.{_≡_, ap}
 use mathlib.Core.Bool.{Bool, true, false, not}
-use mathlib.Core.List.{List}
 use Prim.Native.Nat.{ℕ, _≤_, _<_, min}
 use native.Mathlib.Omega.{arith}
 use borrow.Author.Tests.{not-false, not-true}
+use Rattle.criteria.specs.Inputs.{Visit}
 use Rattle.criteria.specs.Sums.{measuredSum, allMeasured}
 use Rattle.criteria.specs.Nadir.{afterVisit}
-use Rattle.criteria.proofs.Laws.{withNadir}
+use Rattle.criteria.specs.declared.BaselineDisease.{BaselineDisease}
 use Rattle.criteria.specs.declared.Earlier.{Earlier}
 
+abbrev withNadir : ℕ → Earlier
+withNadir n = record { nadir = n }
+
+-- what is left, from whether every target is measured and the sum of the measured
+abbrev Leaves : Earlier → Bool → ℕ → Earlier → Type 0
+Leaves e m s r = (b : BaselineDisease) (v : Visit) → m ≡ allMeasured (b .count) (v .measured) → s ≡ measuredSum (v .measured) (v .sizes) → r ≡ afterVisit b e v
+
 module _ (e : Earlier) (m : Bool) (s : ℕ) where
-  pub incomplete : not m ≡ true → (count : ℕ) (measured : List Bool) (sizes : List ℕ) → m ≡ allMeasured count measured → s ≡ measuredSum measured sizes →
-      e ≡ afterVisit count e measured sizes
+  pub incomplete : not m ≡ true → Leaves e m s e
   unfolding afterVisit
-  incomplete h count measured sizes me se = let f : m ≡ false = not-true m h in rw (← me, f)
+  incomplete h b v me se = let f : m ≡ false = not-true m h in rw (← me, f)
 
   module _ (h : not m ≡ false) where
-    pub not-less : e .nadir < s → (count : ℕ) (measured : List Bool) (sizes : List ℕ) → m ≡ allMeasured count measured → s ≡ measuredSum measured sizes →
-        e ≡ afterVisit count e measured sizes
+    pub not-less : e .nadir < s → Leaves e m s e
     unfolding afterVisit
-    not-less l count measured sizes me se =
+    not-less l b v me se =
         let t : m ≡ true = not-false m h in
         let w : e .nadir ≡ min s (e .nadir) = omega arith in
         rw (← me, t, ← se) (ap withNadir w)
 
-    pub least-now : s ≤ e .nadir → (count : ℕ) (measured : List Bool) (sizes : List ℕ) → m ≡ allMeasured count measured → s ≡ measuredSum measured sizes →
-        withNadir s ≡ afterVisit count e measured sizes
+    pub least-now : s ≤ e .nadir → Leaves e m s (withNadir s)
     unfolding afterVisit
-    least-now l count measured sizes me se =
+    least-now l b v me se =
         let t : m ≡ true = not-false m h in
         let w : s ≡ min s (e .nadir) = omega arith in
         rw (← me, t, ← se) (ap withNadir w)

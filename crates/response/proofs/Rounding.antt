@@ -2,10 +2,10 @@
 -- Assumes nothing.
 use mathlib.Core.Path.{_≡_}
 use mathlib.Core.Bool.{Bool, true, false, not}
-use mathlib.Core.List.{List}
 use Prim.Native.Nat.{ℕ, _+_, _-_, _*_, _≤_, _<_}
 use native.Mathlib.Omega.{arith}
 use borrow.Author.Tests.{lt-ltb, le-ltb, eq-eqb, ne-eqb}
+use Rattle.criteria.specs.Inputs.{Visit}
 use Rattle.criteria.specs.Sums.{measuredSum, allMeasured}
 use Rattle.criteria.specs.Change.{Tenths, none, signed, nearest, changeBetween, changeOf}
 use Rattle.criteria.specs.declared.BaselineDisease.{BaselineDisease}
@@ -32,23 +32,23 @@ module _ (baseline sum t : ℕ) where
 -- from whether every target is measured and the sum of the measured
 abbrev Tells : BaselineDisease → Bool → ℕ → Tenths → Type 0
 Tells b m s a =
-    (measured : List Bool) (sizes : List ℕ) → m ≡ allMeasured (b .count) measured → s ≡ measuredSum measured sizes → a ≡ changeOf b measured sizes
+    (v : Visit) → m ≡ allMeasured (b .count) (v .measured) → s ≡ measuredSum (v .measured) (v .sizes) → a ≡ changeOf b v
 
 module _ (b : BaselineDisease) (m : Bool) (s : ℕ) where
   pub no-targets : b .count ≡ 0 → Tells b m s none
   unfolding changeOf
-  no-targets h measured sizes me se = rw (eq-eqb (b .count) 0 h)
+  no-targets h v me se = rw (eq-eqb (b .count) 0 h)
 
   module _ (h : b .count ≡ 0 → ⊥) where
     pub some-unmeasured : not m ≡ true → Tells b m s none
     unfolding changeOf
-    some-unmeasured n measured sizes me se = rw (ne-eqb (b .count) 0 h, ← me, n)
+    some-unmeasured n v me se = rw (ne-eqb (b .count) 0 h, ← me, n)
 
     module _ (n : not m ≡ false) where
       pub no-baseline-sum : b .sum ≡ 0 → Tells b m s none
       unfolding changeOf
-      no-baseline-sum z measured sizes me se = rw (ne-eqb (b .count) 0 h, ← me, n, eq-eqb (b .sum) 0 z)
+      no-baseline-sum z v me se = rw (ne-eqb (b .count) 0 h, ← me, n, eq-eqb (b .sum) 0 z)
 
       pub between : (b .sum ≡ 0 → ⊥) → (a : Tenths) → a ≡ changeBetween (b .sum) s → Tells b m s a
       unfolding changeOf
-      between z a ae measured sizes me se = rw (ne-eqb (b .count) 0 h, ← me, n, ne-eqb (b .sum) 0 z, ← se) ae
+      between z a ae v me se = rw (ne-eqb (b .count) 0 h, ← me, n, ne-eqb (b .sum) 0 z, ← se) ae

@@ -9,7 +9,8 @@ use lib.Dec.{eqb, leb}
 use borrow.Author.Tests.{eqb-true, le-leb, eq-eqb, ne-eqb}
 use Rattle.laws.specs.Choice.{both, either}
 use Rattle.laws.proofs.Tests.{either-with-false}
-use Rattle.criteria.specs.Words.{CR, PR, SD, PD, NE, NA}
+use Rattle.criteria.specs.Words.{Word, CR, PR, SD, PD, NE, NA}
+use Rattle.criteria.specs.Inputs.{Visit}
 use Rattle.criteria.specs.Sums.{measuredSum, allMeasured}
 use Rattle.criteria.specs.Targets.{normalNode, gone, allGone, grown, shrunk, targetAnswer}
 use Rattle.criteria.specs.declared.BaselineDisease.{BaselineDisease}
@@ -24,31 +25,35 @@ gone-as-tested true size = go (eqb size 0) refl
     go false q = refl
 gone-as-tested false size = either-with-false (eqb size 0)
 
+-- the answer at each visit with these marks and sizes
+abbrev Answers : BaselineDisease → Earlier → List Bool → List ℕ → Word → Type 0
+Answers b e measured sizes w = (v : Visit) → measured ≡ v .measured → sizes ≡ v .sizes → w ≡ targetAnswer b e v
+
 module _ (b : BaselineDisease) (e : Earlier) (measured : List Bool) (sizes : List ℕ) where
-  pub no-targets : b .count ≡ 0 → NA ≡ targetAnswer b e measured sizes
+  pub no-targets : b .count ≡ 0 → Answers b e measured sizes NA
   unfolding targetAnswer
-  no-targets h = rw (eq-eqb (b .count) 0 h)
+  no-targets h v ve ze = rw (eq-eqb (b .count) 0 h)
 
   module _ (h : b .count ≡ 0 → ⊥) (m : Bool) (me : m ≡ allMeasured (b .count) measured) (g : Bool) (ge : g ≡ allGone (b .count) (b .nodes) sizes) where
-    pub complete : both m g ≡ true → CR ≡ targetAnswer b e measured sizes
+    pub complete : both m g ≡ true → Answers b e measured sizes CR
     unfolding targetAnswer
-    complete q = rw (ne-eqb (b .count) 0 h, ← me, ← ge, q)
+    complete q v ve ze = rw (ne-eqb (b .count) 0 h, ← ve, ← ze, ← me, ← ge, q)
 
     module _ (q : both m g ≡ false) (s : ℕ) (se : s ≡ measuredSum measured sizes) (w : Bool) (we : w ≡ grown (e .nadir) s) where
-      pub progressive : w ≡ true → PD ≡ targetAnswer b e measured sizes
+      pub progressive : w ≡ true → Answers b e measured sizes PD
       unfolding targetAnswer
-      progressive p = rw (ne-eqb (b .count) 0 h, ← me, ← ge, q, ← se, ← we, p)
+      progressive p v ve ze = rw (ne-eqb (b .count) 0 h, ← ve, ← ze, ← me, ← ge, q, ← se, ← we, p)
 
       module _ (p : w ≡ false) where
-        pub some-unmeasured : not m ≡ true → NE ≡ targetAnswer b e measured sizes
+        pub some-unmeasured : not m ≡ true → Answers b e measured sizes NE
         unfolding targetAnswer
-        some-unmeasured n = rw (ne-eqb (b .count) 0 h, ← me, ← ge, q, ← se, ← we, p, n)
+        some-unmeasured n v ve ze = rw (ne-eqb (b .count) 0 h, ← ve, ← ze, ← me, ← ge, q, ← se, ← we, p, n)
 
         module _ (n : not m ≡ false) (k : Bool) (ke : k ≡ shrunk (b .sum) s) where
-          pub partly : k ≡ true → PR ≡ targetAnswer b e measured sizes
+          pub partly : k ≡ true → Answers b e measured sizes PR
           unfolding targetAnswer
-          partly r = rw (ne-eqb (b .count) 0 h, ← me, ← ge, q, ← se, ← we, p, n, ← ke, r)
+          partly r v ve ze = rw (ne-eqb (b .count) 0 h, ← ve, ← ze, ← me, ← ge, q, ← se, ← we, p, n, ← ke, r)
 
-          pub stable : k ≡ false → SD ≡ targetAnswer b e measured sizes
+          pub stable : k ≡ false → Answers b e measured sizes SD
           unfolding targetAnswer
-          stable r = rw (ne-eqb (b .count) 0 h, ← me, ← ge, q, ← se, ← we, p, n, ← ke, r)
+          stable r v ve ze = rw (ne-eqb (b .count) 0 h, ← ve, ← ze, ← me, ← ge, q, ← se, ← we, p, n, ← ke, r)

@@ -6,6 +6,7 @@ use Prim.Native.Nat.{ℕ}
 use Rattle.dates.specs.Laws.{ymd}
 use Rattle.records.specs.Examples.{fivePlaces}
 use Rattle.records.specs.declared.Status.the-variants as S
+use Rattle.criteria.specs.Inputs.{visitOf}
 use Rattle.criteria.specs.Examples.{printed}
 use Rattle.criteria.specs.declared.Target.the-variants as T
 use Rattle.criteria.specs.declared.Overall.the-variants as O
@@ -16,7 +17,8 @@ use Rattle.response.specs.declared.VisitAnswer.{VisitAnswer}
 -- by the nadir so far, which of a target and a node were measured, and their sizes: non-target NN, no new lesion
 abbrev pub answered : ℕ → List Bool → List ℕ → VisitAnswer → Type 0
 answered nadir measured sizes =
-    JudgesVisit printed (record { nadir = nadir }) (record { date = ymd 2020 2 12; status = S.NN; newlesion = false }) (fivePlaces false measured) (fivePlaces 0 sizes)
+    JudgesVisit printed (record { nadir = nadir })
+    (visitOf (record { date = ymd 2020 2 12; status = S.NN; newlesion = false }) (fivePlaces false measured) (fivePlaces 0 sizes))
 
 pub record JudgedVisits : Type 0 where
   -- days 43, 85 and 127

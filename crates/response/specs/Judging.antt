@@ -5,12 +5,11 @@ use mathlib.Core.Bool.{Bool}
 use mathlib.Core.List.{List, []}
 use Prim.Native.Nat.{ℕ}
 use Rattle.records.specs.declared.BaselineEntry.{BaselineEntry}
-use Rattle.records.specs.declared.VisitEntry.{VisitEntry}
-use Rattle.criteria.specs.Words.{targetWord, statusWord, overallWord}
-use Rattle.criteria.specs.Inputs.{diseaseOf}
+use Rattle.criteria.specs.Words.{targetWord, overallWord}
+use Rattle.criteria.specs.Inputs.{Visit, diseaseOf}
 use Rattle.criteria.specs.Targets.{targetAnswer}
 use Rattle.criteria.specs.Nadir.{leftBy, afterVisit}
-use Rattle.criteria.specs.Overall.{overallAnswer}
+use Rattle.criteria.specs.Visits.{overallAnswer}
 use Rattle.criteria.specs.Change.{changeValues, changeOf}
 use Rattle.criteria.specs.declared.BaselineDisease.{BaselineDisease}
 use Rattle.criteria.specs.declared.Earlier.{Earlier}
@@ -21,8 +20,8 @@ pub record JudgesBaseline (entry : BaselineEntry) (nodes : List Bool) (sizes : L
   pub disease : a .disease ≡ diseaseOf entry nodes sizes
   pub after : a .after ≡ leftBy (diseaseOf entry nodes sizes) []
 
-pub record JudgesVisit (b : BaselineDisease) (e : Earlier) (v : VisitEntry) (measured : List Bool) (sizes : List ℕ) (a : VisitAnswer) : Type 0 where
-  pub target : targetWord (a .target) ≡ targetAnswer b e measured sizes
-  pub overall : overallWord (a .overall) ≡ overallAnswer (b .assessed) (v .newlesion) (targetAnswer b e measured sizes) (statusWord (v .status))
-  pub change : changeValues (a .change) ≡ changeOf b measured sizes
-  pub after : a .after ≡ afterVisit (b .count) e measured sizes
+pub record JudgesVisit (b : BaselineDisease) (e : Earlier) (v : Visit) (a : VisitAnswer) : Type 0 where
+  pub target : targetWord (a .target) ≡ targetAnswer b e v
+  pub overall : overallWord (a .overall) ≡ overallAnswer b e v
+  pub change : changeValues (a .change) ≡ changeOf b v
+  pub after : a .after ≡ afterVisit b e v

@@ -2,9 +2,8 @@
 use criteria::BaselineDisease;
 use criteria::ChangeAnswer;
 ghost use mathlib.Core.Path.{_≡_};
-ghost use mathlib.Core.Bool.{Bool};
-ghost use mathlib.Core.List.{List};
-ghost use Prim.Native.Nat.{ℕ, _*_, _≤_};
+ghost use Prim.Native.Nat.{_*_, _≤_};
+ghost use Rattle.criteria.specs.Inputs.{Visit};
 ghost use Rattle.criteria.specs.Sums.{measuredSum, allMeasured};
 ghost use Rattle.criteria.specs.Change.{nearest, changeValues, changeBetween, changeOf};
 
@@ -37,7 +36,7 @@ pub(crate) fn change_from_baseline(
     complete: bool,
     sum: u32,
 ) -> ChangeAnswer
-    ensures { λ r. ⌜ ((measured : List Bool) (sizes : List ℕ) → complete ≡ allMeasured (baseline .count) measured → sum ≡ measuredSum measured sizes → changeValues r ≡ changeOf baseline measured sizes) ⌝ }
+    ensures { λ r. ⌜ ((v : Visit) → complete ≡ allMeasured (baseline .count) (v .measured) → sum ≡ measuredSum (v .measured) (v .sizes) → changeValues r ≡ changeOf baseline v) ⌝ }
 {
     if baseline.count == 0 {
         return ChangeAnswer::Absent;

@@ -6,6 +6,7 @@ use criteria::Overall;
 use criteria::Target;
 use records::BaselineEntry;
 use records::VisitEntry;
+ghost use Rattle.criteria.specs.Inputs.{visitOf};
 ghost use Rattle.response.specs.Judging.{JudgesBaseline, JudgesVisit};
 
 mod sums; // sums.rt: sums of sizes, and whether every target is measured
@@ -50,7 +51,7 @@ pub fn judge_visit(
     measured: [bool; 5],
     sizes: [u16; 5],
 ) -> VisitAnswer
-    ensures { λ r. ⌜ JudgesVisit baseline earlier entry measured sizes r ⌝ }
+    ensures { λ r. ⌜ JudgesVisit baseline earlier (visitOf entry measured sizes) r ⌝ }
 {
     let status = entry.status;
     let sum = sums::measured_sum(measured, sizes);

@@ -1,15 +1,14 @@
 // The nadir after a visit.
 use criteria::Earlier;
 ghost use mathlib.Core.Path.{_≡_};
-ghost use mathlib.Core.Bool.{Bool};
-ghost use mathlib.Core.List.{List};
-ghost use Prim.Native.Nat.{ℕ};
+ghost use Rattle.criteria.specs.Inputs.{Visit};
 ghost use Rattle.criteria.specs.Sums.{measuredSum, allMeasured};
 ghost use Rattle.criteria.specs.Nadir.{afterVisit};
+ghost use Rattle.criteria.specs.declared.BaselineDisease.{BaselineDisease};
 
 // From whether every target is measured and the sum of the measured.
 pub(crate) fn after_visit(earlier: Earlier, complete: bool, sum: u32) -> Earlier
-    ensures { λ r. ⌜ ((count : ℕ) (measured : List Bool) (sizes : List ℕ) → complete ≡ allMeasured count measured → sum ≡ measuredSum measured sizes → r ≡ afterVisit count earlier measured sizes) ⌝ }
+    ensures { λ r. ⌜ ((b : BaselineDisease) (v : Visit) → complete ≡ allMeasured (b .count) (v .measured) → sum ≡ measuredSum (v .measured) (v .sizes) → r ≡ afterVisit b earlier v) ⌝ }
 {
     if !complete {
         return earlier;

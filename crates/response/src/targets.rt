@@ -6,6 +6,7 @@ use criteria::Earlier;
 use criteria::Target;
 ghost use mathlib.Core.Path.{_≡_};
 ghost use Rattle.criteria.specs.Words.{targetWord};
+ghost use Rattle.criteria.specs.Inputs.{Visit};
 ghost use Rattle.criteria.specs.Targets.{gone, allGone, grown, shrunk, targetAnswer};
 
 // The short axis in millimetres up to which a node is normal.
@@ -54,7 +55,7 @@ pub(crate) fn target_answer(
     measured: [bool; 5],
     sizes: [u16; 5],
 ) -> Target
-    ensures { λ r. ⌜ targetWord r ≡ targetAnswer baseline earlier measured sizes ⌝ }
+    ensures { λ r. ⌜ ((v : Visit) → measured ≡ v .measured → sizes ≡ v .sizes → targetWord r ≡ targetAnswer baseline earlier v) ⌝ }
 {
     if baseline.count == 0 {
         return Target::NA;

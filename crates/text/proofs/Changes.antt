@@ -17,7 +17,6 @@ use Rattle.records.specs.Refusals.{mostTargets, largestSize, leastSize, wrongSi
 use Rattle.criteria.specs.Inputs.{Visit}
 use Rattle.criteria.specs.Sums.{sumWhere, measuredSum, baselineSum, allMeasured}
 use Rattle.criteria.specs.Change.{Tenths, none, signed, nearest, roundedChange, changeBetween, changeOf}
-use Rattle.criteria.specs.Visits.{visitChange}
 use Rattle.endpoints.proofs.CompleteVisit.{limits-and-zeros}
 use Rattle.endpoints.specs.StudyRecords.{Baseline, baseline, visit, disease, entryOfBaseline, entryOfVisit, fieldsPass}
 use Rattle.endpoints.specs.Lawful.{measuredBeyond, fitsBy, fits}
@@ -136,7 +135,7 @@ module _ (b : Baseline) (d : ℕ) (v : Visit) (base : fieldsPass (baseline b) �
               rw (lt-ltb i (b .count) within) (omega arith)
           go false m = omega arith
 
-  pub change-short : ChangeShort (visitChange (disease b) v)
+  pub change-short : ChangeShort (changeOf (disease b) v)
   unfolding changeOf
   change-short = go (eqb (b .count) 0) (not (allMeasured (b .count) (v .measured))) (eqb (baselineSum (b .count) (b .sizes)) 0) refl
     where

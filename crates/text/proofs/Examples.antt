@@ -9,11 +9,12 @@ use Rattle.codec.specs.Reading.{statusFrom, baselineIn, visitIn, rawIn, refusal
 use Rattle.parts.specs.Parts.{badLength}
 use Rattle.criteria.specs.Sums.{measuredSum, baselineSum, allMeasured}
 use Rattle.criteria.specs.Targets.{allGone, grown, shrunk, targetAnswer}
-use Rattle.criteria.specs.Nadir.{nadirOf}
-use Rattle.criteria.specs.Overall.{overallAnswer}
+use Rattle.criteria.specs.Nadir.{afterVisit}
+use Rattle.criteria.specs.Overall.{overallBy}
+use Rattle.criteria.specs.Visits.{overallAnswer}
 use Rattle.criteria.specs.Change.{changeBetween, changeOf}
 use Rattle.endpoints.specs.Lawful.{measuredBeyond, fitsBy, fits}
-use Rattle.endpoints.specs.Visits.{judge}
+use Rattle.endpoints.specs.Course.{answerAt}
 use Rattle.endpoints.specs.Pfs.{gapLimit, pfs}
 use Rattle.endpoints.specs.Best.{best, duration}
 use Rattle.endpoints.specs.Lines.{lineOf}
@@ -25,7 +26,7 @@ use Rattle.text.specs.Text.{tenthsText, visitText, pfsText, bestText, du
 use Rattle.text.specs.Examples.{LinesAtTheEdges}
 
 pub lines-at-the-edges : LinesAtTheEdges
-unfolding leapYear daysInMonth dateExists daysOfYears daysOfMonths dayNumber studyDayOf wrongSize largeMeasured setBeyond sizedUnmeasured withoutDisease outsideLimits notZero refusalOfRead bytesNumber statusFrom baselineIn visitIn rawIn refusalOfNumber refusalOfBytes recordOfBytes badLength measuredSum baselineSum allMeasured allGone grown shrunk targetAnswer nadirOf overallAnswer changeBetween changeOf measuredBeyond fitsBy fits judge gapLimit pfs best duration lineOf pfsSettledBy bestSettledBy durationSettledBy pfsSettled bestSettled durationSettled refusalBehind refusalOfOpening refusalOfAdding startsLate verdictOf decimal tenthsText visitText pfsText bestText durationText settledText outcomeText refusalText listingOf pageOf
+unfolding leapYear daysInMonth dateExists daysOfYears daysOfMonths dayNumber studyDayOf wrongSize largeMeasured setBeyond sizedUnmeasured withoutDisease outsideLimits notZero refusalOfRead bytesNumber statusFrom baselineIn visitIn rawIn refusalOfNumber refusalOfBytes recordOfBytes badLength measuredSum baselineSum allMeasured allGone grown shrunk targetAnswer afterVisit overallBy overallAnswer changeBetween changeOf measuredBeyond fitsBy fits answerAt gapLimit pfs best duration lineOf pfsSettledBy bestSettledBy durationSettledBy pfsSettled bestSettled durationSettled refusalBehind refusalOfOpening refusalOfAdding startsLate verdictOf decimal tenthsText visitText pfsText bestText durationText settledText outcomeText refusalText listingOf pageOf
 lines-at-the-edges =
     record {
       first = refl;

@@ -16,6 +16,7 @@ use Rattle.codec.specs.Reading.{recordOfBytes}
 use Rattle.codec.proofs.Found.{found-five}
 use Rattle.endpoints.specs.StudyRecords.{Baseline, baseline, fieldsPass, allPass, onStudyDays}
 use Rattle.endpoints.specs.Lawful.{Past, latestDay}
+use Rattle.endpoints.specs.Course.{course}
 use Rattle.endpoints.specs.Lines.{visitLines}
 use Rattle.endpoints.specs.Settled.{outcome}
 use Rattle.endpoints.specs.Adding.{notBaseline, refusalAfter, refusalOfOpening, refusalOfAdding}
@@ -23,7 +24,7 @@ use Rattle.endpoints.proofs.Calls.{none-of-both}
 use Rattle.endpoints.proofs.Refusals.{own-passed}
 use Rattle.held.specs.declared.Subject.{Subject}
 use Rattle.held.specs.Laws.{Within}
-use Rattle.held.proofs.Follows.{summary}
+use Rattle.held.specs.Summary.{summary}
 use Rattle.held.proofs.Within.{subject-within}
 use Rattle.placing.specs.Promises.{subjectBy, refusalHeld}
 use Rattle.outcome.specs.Laws.{DurationWithin, TellsWithin}
@@ -91,7 +92,7 @@ module _ (x : BaselineEntry) (marks : List Bool) (sizes : List ℕ) (passes : fi
         )
 
     ended-short : (k : ℕ) → k ≤ mostRecords → length (listingFrom (whole later) k []) ≤ 24 * length later + 47
-    ended-short k l = rw (append-nil later) (go (responseStartsLate b (behind later)))
+    ended-short k l = rw (append-nil later) (go (responseStartsLate (course b (behind later))))
       where
         go : (late : Bool) →
             length (listingText (pick late (refused 14 (k - 1)) (accepted (outcome b (behind later)))) (onStudyDays (whole later))) ≤ 24 * length later + 47

@@ -1,6 +1,5 @@
 -- `response::judge_baseline` meets its contract.
 -- Assumes nothing.
-use Rattle.criteria.specs.Nadir.{nadirOf}
 use borrow.Author.Needs.{needs}
 use Rattle.response.proofs.judge_baseline.Statement.{statement}
 use Rattle.response.proofs.judge_baseline.Tie as tie
@@ -10,4 +9,4 @@ judge-baseline-spec =
     tie.close
     (tie.spec
     (λ c κs. search needs)
-    (λ c. unfold nadirOf in search (c .baseline-sum .ensures)))
+    (λ c. search (c .baseline-sum .ensures)))

@@ -1,10 +1,13 @@
 -- `response::judge_visit` meets its contract: each part is what its rule ensures.
 -- Assumes nothing.
+use mathlib.Core.Path.{refl}
+use Rattle.criteria.specs.Visits.{overallAnswer}
 use borrow.Author.Needs.{needs}
 use Rattle.response.proofs.judge_visit.Statement.{statement}
 use Rattle.response.proofs.judge_visit.Tie as tie
 
 pub judge-visit-spec : {M : Type 1} → statement M
+unfolding overallAnswer
 judge-visit-spec =
     tie.close
     (tie.spec
@@ -17,10 +20,10 @@ judge-visit-spec =
     (λ c.
     let sum = c .before .before .before .before .before .measured-sum .ensures in
     let complete = c .before .before .before .before .all-measured .ensures in
-    let t = c .before .before .before .target-answer .ensures in
+    let t = c .before .before .before .target-answer .ensures _ refl refl in
     record {
       target = t;
       overall = rw (← t) (c .before .before .overall-answer .ensures);
-      change = c .before .change-from-baseline .ensures _ _ complete sum;
-      after = c .after-visit .ensures _ _ _ complete sum;
+      change = c .before .change-from-baseline .ensures _ complete sum;
+      after = c .after-visit .ensures _ _ complete sum;
     }))
