@@ -2,10 +2,10 @@
 -- Assumes nothing.
 use mathlib.Core.Path.{refl}
 use Rattle.dates.specs.Calendar.{leapYear, daysInMonth, dateExists}
-use Rattle.records.specs.Refusals.{wrongSize, largeMeasured, setBeyond, sizedUnmeasured, withoutDisease, outsideLimits, notZero, refusalOfRead}
+use Rattle.records.specs.Refusals.{wrongSize, largeMeasured, setBeyond, sizedUnmeasured, withoutDisease, outsideLimits, notZero, refusalsOfRead}
 use Rattle.codec.specs.Bytes.{recordNumber, bytesOf, bytesNumber}
-use Rattle.codec.specs.Reading.{statusFrom, baselineIn, visitFieldsIn, visitFieldsOf, visitIn, spareIn, rawIn, refusalOfNumber, refusalOfBytes, recordOfBytes}
-use Rattle.codec.specs.Examples.{BytesOfEachKind, ReadOfEachKind, FirstRefusals, FieldsByTheirBits, FieldsOfVisits, AfterReading}
+use Rattle.codec.specs.Reading.{statusFrom, baselineIn, visitFieldsIn, visitFieldsOf, visitIn, spareIn, rawIn, refusalsOfNumber, refusalsOfBytes, recordOfBytes}
+use Rattle.codec.specs.Examples.{BytesOfEachKind, ReadOfEachKind, FirstRefusals, FieldsByTheirBits, FieldsOfVisits}
 
 pub bytes-of-each-kind : BytesOfEachKind
 unfolding recordNumber bytesOf
@@ -23,7 +23,7 @@ bytes-of-each-kind =
     }
 
 pub read-of-each-kind : ReadOfEachKind
-unfolding leapYear daysInMonth dateExists wrongSize largeMeasured setBeyond sizedUnmeasured withoutDisease outsideLimits notZero refusalOfRead bytesNumber statusFrom baselineIn visitIn spareIn rawIn refusalOfNumber refusalOfBytes recordOfBytes
+unfolding leapYear daysInMonth dateExists wrongSize largeMeasured setBeyond sizedUnmeasured withoutDisease outsideLimits notZero refusalsOfRead bytesNumber statusFrom baselineIn visitIn spareIn rawIn refusalsOfNumber refusalsOfBytes recordOfBytes
 read-of-each-kind =
     record {
       printed = refl;
@@ -39,7 +39,7 @@ read-of-each-kind =
     }
 
 pub first-refusals : FirstRefusals
-unfolding leapYear daysInMonth dateExists wrongSize largeMeasured setBeyond sizedUnmeasured withoutDisease outsideLimits notZero refusalOfRead bytesNumber statusFrom baselineIn visitIn spareIn rawIn refusalOfNumber refusalOfBytes
+unfolding leapYear daysInMonth dateExists wrongSize largeMeasured setBeyond sizedUnmeasured withoutDisease outsideLimits notZero refusalsOfRead bytesNumber statusFrom baselineIn visitIn spareIn rawIn refusalsOfNumber refusalsOfBytes
 first-refusals =
     record {
       noBytes = refl;
@@ -74,7 +74,3 @@ fields-of-visits =
       tenBytes = refl;
       twelveBytes = refl;
     }
-
-pub after-reading : AfterReading
-unfolding leapYear daysInMonth dateExists wrongSize largeMeasured setBeyond sizedUnmeasured withoutDisease outsideLimits notZero refusalOfRead bytesNumber statusFrom baselineIn visitIn spareIn rawIn refusalOfNumber refusalOfBytes
-after-reading = record { read = refl; noBytes = refl; spare = refl }

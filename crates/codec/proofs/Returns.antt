@@ -7,14 +7,17 @@ use Prim.Native.Nat.{ℕ, suc}
 use native.Mathlib.Omega.{arith}
 use lib.ListN.{length}
 use borrow.Author.Tests.{eq-eqb, ne-eqb}
+use Rattle.laws.specs.Refusals.{first}
 use Rattle.packing.specs.Layout.{AreBytes}
-use Rattle.records.specs.Refusals.{checkNumber}
+use Rattle.records.specs.Refusals.{ownNumber, checkNumber}
+use Rattle.records.specs.declared.OwnRefusal.{OwnRefusal}
 use Rattle.records.specs.declared.Record.{Record}
 use Rattle.records.specs.declared.CheckAnswer.{CheckAnswer}
 use Rattle.records.specs.declared.CheckAnswer.the-variants as C
+use Rattle.records.proofs.Passed.{own-not-0}
 use Rattle.codec.specs.Bytes.{recordLength, bytesNumber}
 use Rattle.codec.specs.Fields.{fieldAt}
-use Rattle.codec.specs.Reading.{readNumber, isKind, rawIn, refusalOfRaw, refusalOfNumber, refusalOfBytes, blank, recordOfBytes, JudgesRead, Reads, visitFieldsIn, blankVisit, visitFieldsOf, ReadsVisit}
+use Rattle.codec.specs.Reading.{readNumber, isKind, rawIn, refusalsOfRaw, refusalsOfNumber, refusalsOfBytes, refusalOfBytes, blank, recordOfBytes, JudgesRead, Reads, visitFieldsIn, blankVisit, visitFieldsOf, ReadsVisit}
 use Rattle.codec.specs.declared.Raw.{Raw}
 use Rattle.codec.specs.declared.ReadAnswer.the-variants as R
 use Rattle.codec.specs.declared.ReadResult.{ReadResult}
@@ -22,26 +25,16 @@ use Rattle.codec.specs.declared.VisitFields.{VisitFields}
 
 -- ---- judging what was read: `search` finds the premises by itself
 
-module _ (w : Raw) (a : CheckAnswer) (x : ReadResult) (e : checkNumber a ≡ refusalOfRaw w) where
-  judged-refused : (n : ℕ) → checkNumber a ≡ suc n → readNumber (x .answer) ≡ suc n → x .found ≡ blank → JudgesRead w x
-  judged-refused n p r f =
-      let q : refusalOfRaw w ≡ suc n = sym e ∙ p in
-      record { answer = r ∙ sym q; found = f ∙ rw (q, ne-eqb (suc n) 0 (omega arith)) }
+module _ (w : Raw) (a : CheckAnswer) (e : checkNumber a ≡ first (refusalsOfRaw w)) where
+  pub judged-refused : (x : ReadResult) (own : OwnRefusal) → a ≡ C.Refused own → (x .answer ≡ R.Refused own) × (x .found ≡ blank) → JudgesRead w x
+  judged-refused x own p q =
+      let n : first (refusalsOfRaw w) ≡ ownNumber own = sym e ∙ ap checkNumber p in
+      record { answer = ap readNumber (q .0) ∙ sym n; found = q .1 ∙ rw (n, own-not-0 own) }
 
-  pub judged-no-date : a ≡ C.NoSuchDate → (x .answer ≡ R.NoSuchDate) × (x .found ≡ blank) → JudgesRead w x
-  judged-no-date p q = judged-refused 2 (ap checkNumber p) (ap readNumber (q .0)) (q .1)
-
-  pub judged-outside : a ≡ C.OutsideLimits → (x .answer ≡ R.OutsideLimits) × (x .found ≡ blank) → JudgesRead w x
-  judged-outside p q = judged-refused 3 (ap checkNumber p) (ap readNumber (q .0)) (q .1)
-
-  pub judged-not-zero : a ≡ C.NotZero → (x .answer ≡ R.NotZero) × (x .found ≡ blank) → JudgesRead w x
-  judged-not-zero p q = judged-refused 4 (ap checkNumber p) (ap readNumber (q .0)) (q .1)
-
-pub judged-passed : (w : Raw) (a : CheckAnswer) (r : Record) → checkNumber a ≡ refusalOfRaw w → r ≡ w .read → a ≡ C.Passed →
-    JudgesRead w (record { answer = R.Done; found = r })
-judged-passed w a r e f p =
-    let q : refusalOfRaw w ≡ 0 = sym e ∙ ap checkNumber p in
-    record { answer = sym q; found = rw q f }
+  pub judged-passed : (r : Record) → r ≡ w .read → a ≡ C.Passed → JudgesRead w (record { answer = R.Done; found = r })
+  judged-passed r f p =
+      let q : first (refusalsOfRaw w) ≡ 0 = sym e ∙ ap checkNumber p in
+      record { answer = sym q; found = rw q f }
 
 -- ---- reading
 
@@ -51,19 +44,19 @@ module _ (s : List ℕ) (x : ReadResult) (b : AreBytes s) where
   reads-refused n e r f = record { answer = r ∙ sym e; found = f ∙ rw (e, ne-eqb (suc n) 0 (omega arith)); octets = b }
 
   pub reads-length : (length s ≡ recordLength → ⊥) → (x .answer ≡ R.NotElevenBytes) × (x .found ≡ blank) → Reads s x
-  unfolding refusalOfBytes
+  unfolding refusalsOfBytes
   reads-length h q = reads-refused 0 (rw (ne-eqb (length s) recordLength h)) (ap readNumber (q .0)) (q .1)
 
   module _ (l : length s ≡ recordLength) (kind : ℕ) (ke : kind ≡ fieldAt s 0 3) where
     module _ (known : Bool) (known-e : known ≡ isKind kind) where
       pub reads-no-kind : not known ≡ true → (x .answer ≡ R.NoSuchKind) × (x .found ≡ blank) → Reads s x
-      unfolding refusalOfBytes refusalOfNumber
+      unfolding refusalsOfBytes refusalsOfNumber
       reads-no-kind h q = reads-refused 1 (rw (eq-eqb (length s) recordLength l, ← ke, ← known-e, h)) (ap readNumber (q .0)) (q .1)
 
       pub reads-judged : not known ≡ false → (w : Raw) → w ≡ rawIn kind (bytesNumber s) → JudgesRead w x → Reads s x
-      unfolding refusalOfBytes refusalOfNumber recordOfBytes
+      unfolding refusalsOfBytes refusalsOfNumber recordOfBytes
       reads-judged h w we j =
-          let q : refusalOfBytes s ≡ refusalOfRaw w = rw (eq-eqb (length s) recordLength l, ← ke, ← known-e, h, we) in
+          let q : refusalOfBytes s ≡ first (refusalsOfRaw w) = rw (eq-eqb (length s) recordLength l, ← ke, ← known-e, h, we) in
           record { answer = j .answer ∙ sym q; found = j .found ∙ rw (q, ← ke, we); octets = b }
 
 -- ---- reading what a visit has

@@ -8,13 +8,14 @@ use lib.Dec.{eqb}
 use lib.ListN.{length}
 use borrow.Author.Tests.{eq-eqb, eqb-true}
 use Rattle.laws.specs.Choice.{pick}
+use Rattle.laws.specs.Refusals.{first}
 use Rattle.laws.proofs.Tests.{never}
 use Rattle.packing.specs.Layout.{AreBytes}
 use Rattle.dates.specs.declared.Date.{Date}
 use Rattle.records.specs.declared.Entry.the-variants as E
 use Rattle.records.specs.Form.{dateOf}
 use Rattle.codec.specs.Bytes.{recordLength, bytesNumber}
-use Rattle.codec.specs.Reading.{baselineIn, rawVisit, visitFieldsIn, visitIn, spareIn, dateIn, kindIn, rawIn, refusalOfRaw, refusalOfNumber, refusalOfBytes, recordOfBytes, visitFieldsOf}
+use Rattle.codec.specs.Reading.{baselineIn, rawVisit, visitFieldsIn, visitIn, spareIn, dateIn, kindIn, rawIn, refusalsOfRaw, refusalsOfNumber, refusalsOfBytes, refusalOfBytes, recordOfBytes, visitFieldsOf}
 use Rattle.codec.specs.declared.Raw.{Raw}
 use Rattle.codec.specs.declared.VisitFields.{VisitFields}
 use Rattle.codec.proofs.Fine.{eleven}
@@ -54,11 +55,11 @@ second-raw n = refl
 
 -- bytes whose fields are a visit's: their refusal and their record are those of the fields
 pub record IsVisit (s : List ℕ) (v : VisitFields) : Type 0 where
-  pub refusal : refusalOfBytes s ≡ refusalOfRaw (rawVisit v)
+  pub refusal : refusalOfBytes s ≡ first (refusalsOfRaw (rawVisit v))
   pub found : refusalOfBytes s ≡ 0 → recordOfBytes s ≡ rawVisit v .read
 
 pub is-visit : (s : List ℕ) → visitFieldsOf s .isvisit ≡ true → IsVisit s (visitFieldsOf s)
-unfolding visitFieldsOf refusalOfBytes refusalOfNumber recordOfBytes
+unfolding visitFieldsOf refusalsOfBytes refusalsOfNumber recordOfBytes
 is-visit s = go (eqb (length s) recordLength) refl
   where
     go : (x : Bool) → eqb (length s) recordLength ≡ x → visitFieldsOf s .isvisit ≡ true → IsVisit s (visitFieldsOf s)

@@ -8,12 +8,13 @@ use Prim.Native.Nat.{ℕ}
 use Rattle.dates.specs.Laws.{ymd}
 use Rattle.dates.specs.declared.Date.{Date}
 use Rattle.records.specs.Examples.{filled, baselineDated, visitDated, therapyDated, deathDated}
+use Rattle.records.specs.declared.OwnRefusal.the-variants as O
 use Rattle.records.specs.declared.Record.{Record}
 use Rattle.records.specs.declared.Status.{Status}
 use Rattle.records.specs.declared.Status.the-variants as S
 use Rattle.codec.specs.Bytes.{bytesOf}
 use Rattle.codec.specs.Fields.{fieldAt, targetsAt}
-use Rattle.codec.specs.Reading.{readNumber, refusalOfBytes, recordOfBytes, afterReading, visitFieldsOf}
+use Rattle.codec.specs.Reading.{readNumber, refusalOfBytes, recordOfBytes, visitFieldsOf}
 use Rattle.codec.specs.declared.ReadAnswer.the-variants as A
 use Rattle.codec.specs.declared.VisitFields.{VisitFields}
 
@@ -122,7 +123,7 @@ pub record FirstRefusals : Type 0 where
   pub firstOfDeath : refusalOfBytes (eleven (0x8F ∷ 0xC8 ∷ 0x54 ∷ 0x80 ∷ [])) ≡ 5
   pub lastOfDeath : refusalOfBytes (0x8F ∷ 0xC8 ∷ 0x54 ∷ 0 ∷ 0 ∷ 0 ∷ 0 ∷ 0 ∷ 0 ∷ 0 ∷ 0x01 ∷ []) ≡ 5
   -- 1 not 11 bytes; 2 kind not 1 to 4; 3 to 5
-  pub numbers : map readNumber (A.Done ∷ A.NotElevenBytes ∷ A.NoSuchKind ∷ A.NoSuchDate ∷ A.OutsideLimits ∷ A.NotZero ∷ []) ≡ 0 ∷ 1 ∷ 2 ∷ 3 ∷ 4 ∷ 5 ∷ []
+  pub numbers : map readNumber (A.Done ∷ A.NotElevenBytes ∷ A.NoSuchKind ∷ A.Refused O.NotZero ∷ []) ≡ 0 ∷ 1 ∷ 2 ∷ 5 ∷ []
 
 -- kind, year, month, day, assessed, non-target and count of a baseline, and its targets from bit 29 on; the targets of two visits, from bit 28 on
 pub record FieldsByTheirBits : Type 0 where
@@ -156,9 +157,3 @@ pub record FieldsOfVisits : Type 0 where
   pub noBytes : visitFieldsOf [] ≡ fieldsOf false (ymd 0 0 0) S.NA false [] [] false false
   pub tenBytes : visitFieldsOf (filled 255 10 []) ≡ fieldsOf false (ymd 0 0 0) S.NA false [] [] false false
   pub twelveBytes : visitFieldsOf (filled 0 12 (0x4F ∷ 0xC8 ∷ 0x4C ∷ 0x48 ∷ 0x31 ∷ 0x03 ∷ [])) ≡ fieldsOf false (ymd 0 0 0) S.NA false [] [] false false
-
--- the refusals of bytes before another number
-pub record AfterReading : Type 0 where
-  pub read : afterReading printedBytes 7 ≡ 7
-  pub noBytes : afterReading [] 7 ≡ 1
-  pub spare : afterReading (eleven (0x6F ∷ 0xC8 ∷ 0x54 ∷ 0x80 ∷ [])) 7 ≡ 5

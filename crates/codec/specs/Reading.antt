@@ -7,9 +7,10 @@ use mathlib.Core.List.{List, [], _∷_}
 use lib.Dec.{ltb, leb, eqb}
 use lib.ListN.{getD, length, drop}
 use Rattle.laws.specs.Choice.{both, pick}
+use Rattle.laws.specs.Refusals.{Refusal, _when_, first}
 use Rattle.packing.specs.Layout.{unpack, AreBytes}
 use Rattle.dates.specs.declared.Date.{Date}
-use Rattle.records.specs.Refusals.{refusalOfRead}
+use Rattle.records.specs.Refusals.{ownNumber, refusalsOfRead}
 use Rattle.records.specs.declared.Entry.{Entry}
 use Rattle.records.specs.declared.Entry.the-variants.{Baseline, Visit, Therapy, Death}
 use Rattle.records.specs.declared.Status.{Status}
@@ -19,7 +20,7 @@ use Rattle.codec.specs.Bytes.{recordLength, baselineLayout, visitLayout,
 use Rattle.codec.specs.declared.Raw.{Raw}
 use Rattle.codec.specs.declared.VisitFields.{VisitFields}
 use Rattle.codec.specs.declared.ReadAnswer.{ReadAnswer}
-use Rattle.codec.specs.declared.ReadAnswer.the-variants.{Done, NotElevenBytes, NoSuchKind, NoSuchDate, OutsideLimits, NotZero}
+use Rattle.codec.specs.declared.ReadAnswer.the-variants.{Done, NotElevenBytes, NoSuchKind, Refused}
 use Rattle.codec.specs.declared.ReadResult.{ReadResult}
 
 -- the number of each case in document 01; 0 where no refusal meets
@@ -27,9 +28,7 @@ abbrev pub readNumber : ReadAnswer → ℕ
 readNumber Done = 0
 readNumber NotElevenBytes = 1
 readNumber NoSuchKind = 2
-readNumber NoSuchDate = 3
-readNumber OutsideLimits = 4
-readNumber NotZero = 5
+readNumber (Refused own) = ownNumber own
 
 abbrev pub isOne : ℕ → Bool
 isOne n = eqb n 1
@@ -109,19 +108,23 @@ rawIn kind n =
     pick (eqb kind 1) (baselineIn n)
     (pick (eqb kind 2) (visitIn n) (pick (eqb kind 3) (spareIn (Therapy (dateIn n)) n) (spareIn (Death (dateIn n)) n)))
 
-abbrev pub refusalOfRaw : Raw → ℕ
-refusalOfRaw w = refusalOfRead (w .read) (w .badstatus) (w .spare)
+abbrev pub refusalsOfRaw : Raw → List Refusal
+refusalsOfRaw w = refusalsOfRead (w .read) (w .badstatus) (w .spare)
 
 abbrev pub isKind : ℕ → Bool
 isKind kind = both (leb 1 kind) (leb kind 4)
 
 -- 2, then 3 to 5
-unfoldable pub refusalOfNumber : ℕ → ℕ
-refusalOfNumber n = pick (not (isKind (kindIn n))) 2 (refusalOfRaw (rawIn (kindIn n) n))
+unfoldable pub refusalsOfNumber : ℕ → List Refusal
+refusalsOfNumber n = 2 when not (isKind (kindIn n)) ∷ refusalsOfRaw (rawIn (kindIn n) n)
 
 -- 1, then the others
-unfoldable pub refusalOfBytes : List ℕ → ℕ
-refusalOfBytes s = pick (not (eqb (length s) recordLength)) 1 (refusalOfNumber (bytesNumber s))
+unfoldable pub refusalsOfBytes : List ℕ → List Refusal
+refusalsOfBytes s = 1 when not (eqb (length s) recordLength) ∷ refusalsOfNumber (bytesNumber s)
+
+-- the first that meets, 0 for none
+abbrev pub refusalOfBytes : List ℕ → ℕ
+refusalOfBytes s = first (refusalsOfBytes s)
 
 -- the one record that stands beside every refusal
 abbrev pub blank : Record
@@ -129,8 +132,8 @@ blank = untargeted (Therapy (record { year = 0; month = 0; day = 0 }))
 
 -- the promise of judging what was read
 pub record JudgesRead (w : Raw) (x : ReadResult) : Type 0 where
-  pub answer : readNumber (x .answer) ≡ refusalOfRaw w
-  pub found : x .found ≡ pick (eqb (refusalOfRaw w) 0) (w .read) blank
+  pub answer : readNumber (x .answer) ≡ first (refusalsOfRaw w)
+  pub found : x .found ≡ pick (eqb (first (refusalsOfRaw w)) 0) (w .read) blank
 
 -- the record, or the blank one
 unfoldable pub recordOfBytes : List ℕ → Record
@@ -142,10 +145,6 @@ pub record Reads (s : List ℕ) (x : ReadResult) : Type 0 where
   pub found : x .found ≡ recordOfBytes s
   -- the type `u8` gives it
   pub octets : AreBytes s
-
--- the refusals of bytes, 1 to 5, and then another number
-abbrev pub afterReading : List ℕ → ℕ → ℕ
-afterReading s n = pick (eqb (refusalOfBytes s) 0) n (refusalOfBytes s)
 
 -- all zero
 abbrev pub blankVisit : VisitFields

@@ -1,12 +1,14 @@
 // A record as 11 bytes, read from any byte string (document 01, "Where a call stops", 1 to 5).
 use dates::Date;
 use records::CheckAnswer;
+use records::OwnRefusal;
 use records::Record;
 use records::Status;
 use records::VisitEntry;
 ghost use mathlib.Core.Path.{_≡_};
+ghost use Rattle.laws.specs.Refusals.{first};
 ghost use Rattle.records.specs.Refusals.{checkNumber};
-ghost use Rattle.codec.specs.Reading.{isKind, refusalOfRaw, blank, JudgesRead, Reads, blankVisit, ReadsVisit};
+ghost use Rattle.codec.specs.Reading.{isKind, refusalsOfRaw, blank, JudgesRead, Reads, blankVisit, ReadsVisit};
 ghost use Rattle.codec.specs.declared.Raw.{Raw};
 
 mod fields; // fields.rt: the bits of one field
@@ -16,9 +18,7 @@ pub enum ReadAnswer {
     Done,
     NotElevenBytes,
     NoSuchKind,
-    NoSuchDate,
-    OutsideLimits,
-    NotZero,
+    Refused(OwnRefusal),
 }
 
 // The record that was read; beside a refusal one fixed blank record.
@@ -63,16 +63,14 @@ fn refused(answer: ReadAnswer) -> ReadResult
 
 // A record that was read, by what its own refusals said of it.
 fn answered(answer: CheckAnswer, found: Record) -> ReadResult
-    ensures { λ x. ⌜ ((w : Raw) → checkNumber answer ≡ refusalOfRaw w → found ≡ w .read → JudgesRead w x) ⌝ }
+    ensures { λ x. ⌜ ((w : Raw) → checkNumber answer ≡ first (refusalsOfRaw w) → found ≡ w .read → JudgesRead w x) ⌝ }
 {
     match answer {
-        CheckAnswer::NoSuchDate => refused(ReadAnswer::NoSuchDate),
-        CheckAnswer::OutsideLimits => refused(ReadAnswer::OutsideLimits),
-        CheckAnswer::NotZero => refused(ReadAnswer::NotZero),
         CheckAnswer::Passed => ReadResult {
             answer: ReadAnswer::Done,
             found: found,
         },
+        CheckAnswer::Refused(own) => refused(ReadAnswer::Refused(own)),
     }
 }
 

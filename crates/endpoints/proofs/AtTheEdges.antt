@@ -3,7 +3,7 @@
 use mathlib.Core.Path.{refl}
 use Rattle.dates.specs.Calendar.{leapYear, daysInMonth, dateExists, daysOfYears, daysOfMonths, dayNumber}
 use Rattle.dates.specs.Answers.{studyDayOf}
-use Rattle.records.specs.Refusals.{wrongSize, largeMeasured, setBeyond, sizedUnmeasured, withoutDisease, outsideLimits, notZero, refusalOfRead}
+use Rattle.records.specs.Refusals.{wrongSize, largeMeasured, setBeyond, sizedUnmeasured, withoutDisease, outsideLimits, notZero, refusalsOfRead}
 use Rattle.criteria.specs.Sums.{measuredSum, baselineSum, allMeasured}
 use Rattle.criteria.specs.Targets.{allGone, grown, shrunk, targetAnswer}
 use Rattle.criteria.specs.Nadir.{afterVisit}
@@ -17,7 +17,7 @@ use Rattle.endpoints.specs.Pfs.{gapLimit, earlyDeath, pfs}
 use Rattle.endpoints.specs.Best.{best, duration}
 use Rattle.endpoints.specs.Lines.{lineOf}
 use Rattle.endpoints.specs.Settled.{settledFrom, pfsSettledBy, bestSettledBy, durationSettledBy, pfsSettled, bestSettled, durationSettled}
-use Rattle.endpoints.specs.Adding.{refusalBehind, refusalOfOpening, refusalOfAdding}
+use Rattle.endpoints.specs.Adding.{refusalsBehind, refusalsOfOpening, refusalsOfAdding}
 use Rattle.endpoints.specs.Examples.{starred, Hold}
 use Rattle.endpoints.specs.FurtherExamples.{WordsOfCases, further, PrintedLines, FieldsThatPass}
 use Rattle.endpoints.specs.AddingExamples.{Unlawful, FittingStatuses, OnStudyDays, FirstRefusals, RepliedOfVisits}
@@ -81,7 +81,7 @@ on-study-days =
     }
 
 pub first-refusals : FirstRefusals
-unfolding refusalOfOpening refusalOfAdding refusalBehind refusalOfRead dateExists daysInMonth leapYear daysOfYears daysOfMonths dayNumber studyDayOf measuredBeyond fitsBy fits wrongSize largeMeasured setBeyond sizedUnmeasured withoutDisease outsideLimits notZero
+unfolding refusalsOfOpening refusalsOfAdding refusalsBehind refusalsOfRead dateExists daysInMonth leapYear daysOfYears daysOfMonths dayNumber studyDayOf measuredBeyond fitsBy fits wrongSize largeMeasured setBeyond sizedUnmeasured withoutDisease outsideLimits notZero
 first-refusals =
     record {
       opens = refl;
@@ -114,7 +114,7 @@ first-refusals =
     }
 
 pub replied-of-visits : RepliedOfVisits
-unfolding refusalOfAdding refusalBehind refusalOfRead dateExists daysInMonth leapYear daysOfYears daysOfMonths dayNumber studyDayOf measuredBeyond fitsBy fits wrongSize largeMeasured setBeyond sizedUnmeasured withoutDisease outsideLimits notZero lineOf answerAt measuredSum baselineSum allMeasured allGone grown shrunk targetAnswer afterVisit overallBy overallAnswer changeBetween changeOf
+unfolding refusalsOfAdding refusalsBehind refusalsOfRead dateExists daysInMonth leapYear daysOfYears daysOfMonths dayNumber studyDayOf measuredBeyond fitsBy fits wrongSize largeMeasured setBeyond sizedUnmeasured withoutDisease outsideLimits notZero lineOf answerAt measuredSum baselineSum allMeasured allGone grown shrunk targetAnswer afterVisit overallBy overallAnswer changeBetween changeOf
 replied-of-visits =
     record {
       visit = refl;

@@ -1,16 +1,18 @@
 -- Which records the refusals of adding let through: those with which a list stays lawful, none of a date before randomisation, and such as pass 4 and 5.
 -- Assumes nothing.
 use mathlib.Core.Path.{_≡_, refl, sym}
-use mathlib.Core.Bool.{Bool, true, false, not}
-use mathlib.Core.List.{List, _∷_}
+use mathlib.Core.Bool.{Bool, true, false, not, Bool·not-not}
+use mathlib.Core.List.{List, [], _∷_}
 use mathlib.Core.Logic.{_↔_}
 use Prim.Native.Nat.{ℕ, _≤_, _<_}
 use native.Mathlib.Omega.{arith}
-use lib.Dec.{leb, ltb}
+use lib.Dec.{leb}
 use lib.ListN.{length}
 use borrow.Author.Tests.{le-leb, lt-leb, lt-ltb}
 use Rattle.laws.specs.Choice.{both, pick}
-use Rattle.laws.proofs.Tests.{never, not-leb, not-ltb}
+use Rattle.laws.specs.Refusals.{Refusal, first, NoneMeets, Each}
+use Rattle.laws.proofs.Tests.{never, both-with-true, both-with-false, not-leb, not-ltb}
+use Rattle.laws.proofs.Refusals.{none-meets}
 use Rattle.dates.specs.declared.Date.{Date}
 use Rattle.dates.specs.Calendar.{dateExists, dayNumber}
 use Rattle.dates.specs.Answers.{refused, studyDayOf}
@@ -22,45 +24,39 @@ use Rattle.records.specs.Refusals.{mostTargets, withoutDisease, outsideLimits, 
 use Rattle.records.proofs.Passed.{passes}
 use Rattle.endpoints.specs.StudyRecords.{Baseline, StudyRecord, baseline, visit, therapy, death, entryPasses, fieldsPass, studyDay, entryOnStudyDay, onStudyDay}
 use Rattle.endpoints.specs.Lawful.{Past, latestDay, died, fits, lawfulBehind}
-use Rattle.endpoints.specs.Adding.{isBaseline, tooEarly, refusalBehind}
+use Rattle.endpoints.specs.Adding.{isBaseline, tooEarly, refusalsBehind}
 use Rattle.endpoints.proofs.Behind.{from-day-1}
 
--- no refusal meets exactly when the test passes
-abbrev NoneExactlyIf : ℕ → Bool → Type 0
-NoneExactlyIf n t = (n ≡ 0) ↔ (t ≡ true)
+-- what holds of 8 to 11 holds of the number of each refusal behind a list
+pub each-behind : (P : ℕ → Type 0) → P 8 → P 9 → P 10 → P 11 → (b : Baseline) (p : Past) (r : StudyRecord) → Each P (refusalsBehind b p r)
+unfolding refusalsBehind
+each-behind P eight nine ten eleven b p r = (eight, (nine, (ten, (eleven, tt))))
 
-meets : (n : ℕ) → 1 ≤ n → NoneExactlyIf n false
-meets n h = (λ z. absurd (let w : ⊥ = omega arith in w), λ z. absurd (never (sym z)))
+-- that none meets, as one test
+abbrev clear : List Refusal → Bool
+clear [] = true
+clear (r ∷ rs) = both (not (r .meets)) (clear rs)
 
-none-meets : NoneExactlyIf 0 true
-none-meets = (λ z. refl, λ z. refl)
-
--- a therapy or a death
-on-or-after : (b : Baseline) (p : Past) (d : ℕ) → lawfulBehind b p ≡ true →
-    NoneExactlyIf (pick (died p) 9 (pick (ltb d (latestDay p)) 10 0)) (both (lawfulBehind b p) (both (not (died p)) (leb (latestDay p) d)))
-on-or-after b p d l = rw (l, ← not-ltb d (latestDay p)) (go (died p) (ltb d (latestDay p)))
+none-clear : (rs : List Refusal) → NoneMeets rs ↔ (clear rs ≡ true)
+none-clear [] = (λ h. refl, λ e. tt)
+none-clear (r ∷ rs) = go (r .meets) (none-clear rs)
   where
-    go : (x e : Bool) → NoneExactlyIf (pick x 9 (pick e 10 0)) (both (not x) (not e))
-    go true e = meets 9 (omega arith)
-    go false true = meets 10 (omega arith)
-    go false false = none-meets
+    go : (m : Bool) → NoneMeets rs ↔ (clear rs ≡ true) → ((m ≡ false) × NoneMeets rs) ↔ (both (not m) (clear rs) ≡ true)
+    go true rest = (λ h. absurd (never (h .0)), λ e. absurd (never (sym e)))
+    go false rest = (λ h. rest .0 (h .1), λ e. (refl, rest .1 e))
 
-pub one-more : (b : Baseline) (p : Past) (r : StudyRecord) → lawfulBehind b p ≡ true → (refusalBehind b p r ≡ 0) ↔ (lawfulBehind b (r ∷ p) ≡ true)
-unfolding refusalBehind
-one-more b p (baseline x) l = rw l (go (died p))
-  where
-    go : (d : Bool) → NoneExactlyIf 8 (both (not d) false)
-    go true = meets 8 (omega arith)
-    go false = meets 8 (omega arith)
-one-more b p (visit d v) l = rw (l, ← not-leb d (latestDay p)) (go (died p) (leb d (latestDay p)) (fits b v))
-  where
-    go : (x e f : Bool) → NoneExactlyIf (pick x 9 (pick e 10 (pick (not f) 11 0))) (both (not x) (both (not e) f))
-    go true e f = meets 9 (omega arith)
-    go false true f = meets 10 (omega arith)
-    go false false true = none-meets
-    go false false false = meets 11 (omega arith)
-one-more b p (therapy d) l = on-or-after b p d l
-one-more b p (death d) l = on-or-after b p d l
+longer-lawful : (b : Baseline) (p : Past) (r : StudyRecord) → lawfulBehind b p ≡ true → lawfulBehind b (r ∷ p) ≡ clear (refusalsBehind b p r)
+unfolding refusalsBehind
+longer-lawful b p (baseline x) l = rw l (both-with-false (not (died p)))
+longer-lawful b p (visit d v) l = rw (l, not-leb d (latestDay p), Bool·not-not (fits b v), both-with-true (fits b v))
+longer-lawful b p (therapy d) l = rw (l, not-ltb d (latestDay p), both-with-true (leb (latestDay p) d))
+longer-lawful b p (death d) l = rw (l, not-ltb d (latestDay p), both-with-true (leb (latestDay p) d))
+
+pub one-more : (b : Baseline) (p : Past) (r : StudyRecord) → lawfulBehind b p ≡ true → (first (refusalsBehind b p r) ≡ 0) ↔ (lawfulBehind b (r ∷ p) ≡ true)
+one-more b p r l =
+    let none = none-meets (refusalsBehind b p r) (each-behind (λ (n : ℕ). 1 ≤ n) (omega arith) (omega arith) (omega arith) (omega arith) b p r) in
+    let test = none-clear (refusalsBehind b p r) in
+    rw (longer-lawful b p r l) (λ e. test .0 (none .0 e), λ e. none .1 (test .1 e))
 
 before-randomisation : (randomisation d : Date) → dayNumber d < dayNumber randomisation → studyDay randomisation d ≡ 0
 unfolding studyDayOf

@@ -6,11 +6,12 @@ use mathlib.Core.Bool.{Bool, true, false, not}
 use mathlib.Core.List.{List, [], _∷_, _++_, reverse}
 use lib.Dec.{leb, ltb, eqb}
 use Rattle.laws.specs.Choice.{pick}
+use Rattle.laws.specs.Refusals.{Refusal, _when_, first}
 use Rattle.records.specs.declared.Entry.{Entry}
 use Rattle.records.specs.declared.Record.{Record}
 use Rattle.records.specs.Form.{dateOf, kindNumber}
-use Rattle.records.specs.Refusals.{refusalOf}
-use Rattle.endpoints.specs.StudyRecords.{Baseline, StudyRecord, baseline, visit, therapy, death, onStudyDay, onStudyDays}
+use Rattle.records.specs.Refusals.{refusalsOf}
+use Rattle.endpoints.specs.StudyRecords.{Baseline, StudyRecord, baseline, visit, therapy, death, onStudyDay, onStudyDays, fromBaseline}
 use Rattle.endpoints.specs.Lawful.{Past, latestDay, died, fits}
 use Rattle.endpoints.specs.Lines.{VisitLine, linesOf}
 
@@ -32,46 +33,42 @@ misfits b (visit d v) = not (fits b v)
 misfits b (therapy d) = false
 misfits b (death d) = false
 
--- 8 a baseline; 9 after a death; 10 day too early; 11 visit doesn't fit baseline; 0 for none
-unfoldable pub refusalBehind : Baseline → Past → StudyRecord → ℕ
-refusalBehind b p r =
-    pick (isBaseline r) 8
-    (pick (died p) 9
-    (pick (tooEarly (latestDay p) r) 10
-    (pick (misfits b r) 11
-    0)))
+-- 8 a baseline; 9 after a death; 10 day too early; 11 visit doesn't fit baseline
+unfoldable pub refusalsBehind : Baseline → Past → StudyRecord → List Refusal
+refusalsBehind b p r =
+    8 when isBaseline r
+    ∷ 9 when died p
+    ∷ 10 when tooEarly (latestDay p) r
+    ∷ 11 when misfits b r
+    ∷ []
 
 -- behind a list in the order recorded; every list of accepted records opens with a baseline, and for any other the answer is 7, which adding never gives
-abbrev pub refusalAfter : List StudyRecord → StudyRecord → ℕ
-refusalAfter [] r = 7
-refusalAfter (baseline b ∷ rs) r = refusalBehind b (reverse rs) r
-refusalAfter (visit d v ∷ rs) r = 7
-refusalAfter (therapy d ∷ rs) r = 7
-refusalAfter (death d ∷ rs) r = 7
+abbrev pub refusalsAfter : List StudyRecord → StudyRecord → List Refusal
+refusalsAfter rs r = fromBaseline (7 when true ∷ []) (λ (b : Baseline) (rs : List StudyRecord). refusalsBehind b (reverse rs) r) rs
 
--- the refusals of a record, 3 to 5, and then another number
-abbrev pub afterOwn : Record → ℕ → ℕ
-afterOwn r n = pick (eqb (refusalOf r) 0) n (refusalOf r)
+abbrev pub notBaseline : Entry → Bool
+notBaseline e = not (eqb (kindNumber e) 1)
 
--- 7 not a baseline; 0 for none
-abbrev pub notBaseline : Entry → ℕ
-notBaseline e = pick (eqb (kindNumber e) 1) 0 7
+-- 3 to 5, then 7
+unfoldable pub refusalsOfOpening : Record → List Refusal
+refusalsOfOpening r = refusalsOf r ++ 7 when notBaseline (r .entry) ∷ []
 
-unfoldable pub refusalOfOpening : Record → ℕ
-refusalOfOpening r = afterOwn r (notBaseline (r .entry))
+-- the first that meets, 0 for none
+abbrev pub refusalOfOpening : Record → ℕ
+refusalOfOpening r = first (refusalsOfOpening r)
 
--- adding, judged against the records accepted so far, baseline first
-unfoldable pub refusalOfAdding : List Record → Record → ℕ
-refusalOfAdding [] r = afterOwn r 7
-refusalOfAdding (b ∷ rs) r = afterOwn r (refusalAfter (onStudyDays (b ∷ rs)) (onStudyDay (dateOf (b .entry)) r))
+-- adding, judged against the records accepted so far, baseline first: 3 to 5, then 8 to 11
+unfoldable pub refusalsOfAdding : List Record → Record → List Refusal
+refusalsOfAdding [] r = refusalsOf r ++ 7 when true ∷ []
+refusalsOfAdding (b ∷ rs) r = refusalsOf r ++ refusalsAfter (onStudyDays (b ∷ rs)) (onStudyDay (dateOf (b .entry)) r)
+
+-- the first that meets, 0 for none
+abbrev pub refusalOfAdding : List Record → Record → ℕ
+refusalOfAdding rs r = first (refusalsOfAdding rs r)
 
 -- the responses at a visit behind a list in the order recorded; no other record has them
 abbrev pub linesAfter : List StudyRecord → StudyRecord → List VisitLine
-linesAfter [] r = []
-linesAfter (baseline b ∷ rs) r = linesOf b (reverse rs) r
-linesAfter (visit d v ∷ rs) r = []
-linesAfter (therapy d ∷ rs) r = []
-linesAfter (death d ∷ rs) r = []
+linesAfter rs r = fromBaseline [] (λ (b : Baseline) (rs : List StudyRecord). linesOf b (reverse rs) r) rs
 
 -- what an addition replies of a visit, by the number of its refusal: beside a refusal nothing
 abbrev pub responsesOfAdding : List Record → Record → List VisitLine

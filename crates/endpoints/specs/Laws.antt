@@ -5,6 +5,7 @@ use mathlib.Core.Bool.{true, false}
 use mathlib.Core.List.{List, [], _∷_, _++_}
 use mathlib.Core.Logic.{_↔_}
 use Prim.Native.Nat.{_<_}
+use Rattle.laws.specs.Refusals.{first}
 use Rattle.dates.specs.declared.Date.{Date}
 use Rattle.dates.specs.Calendar.{dayNumber}
 use Rattle.records.specs.declared.Record.{Record}
@@ -16,7 +17,7 @@ use Rattle.endpoints.specs.Lawful.{Past, latestDay, deathDay, lawfulBehi
 use Rattle.endpoints.specs.Course.{Course, course, latestIn, deathIn}
 use Rattle.endpoints.specs.Best.{isResponse, best, duration}
 use Rattle.endpoints.specs.Lasting.{MarksExactOn}
-use Rattle.endpoints.specs.Adding.{isBaseline, tooEarly, refusalBehind, refusalOfOpening, refusalOfAdding, Call, accepted}
+use Rattle.endpoints.specs.Adding.{isBaseline, tooEarly, refusalsBehind, refusalOfOpening, refusalOfAdding, Call, accepted}
 
 pub record ListLaws : Type 0 where
   -- in a lawful list the latest day is that of the last record
@@ -30,7 +31,7 @@ pub record ListLaws : Type 0 where
 pub record AddingLaws : Type 0 where
   -- none of 8 to 11 meets a record exactly when the list with it is lawful too
   pub oneMore : (b : Baseline) (p : Past) (r : StudyRecord) → lawfulBehind b p ≡ true →
-      (refusalBehind b p r ≡ 0) ↔ (lawfulBehind b (r ∷ p) ≡ true)
+      (first (refusalsBehind b p r) ≡ 0) ↔ (lawfulBehind b (r ∷ p) ≡ true)
   -- a date before randomisation is too early after any list, also where day 1 is not
   pub beforeRandomisation : (randomisation : Date) (p : Past) (r : Record) → isBaseline (onStudyDay randomisation r) ≡ false →
       dayNumber (dateOf (r .entry)) < dayNumber randomisation → tooEarly (latestDay p) (onStudyDay randomisation r) ≡ true

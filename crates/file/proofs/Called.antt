@@ -1,25 +1,24 @@
 -- The calls on the parts of a file have answers: whatever their promises say, some answer says it.
 -- Assumes nothing.
 use mathlib.Core.Path.{_≡_, refl, sym, subst}
-use mathlib.Core.Bool.{Bool, true, false, not}
+use mathlib.Core.Bool.{Bool, true, false}
 use mathlib.Core.List.{List}
 use Prim.Native.Nat.{ℕ, zero, suc, _+_, _-_, _/_, _<_}
 use native.Mathlib.Omega.{arith}
-use lib.Dec.{ltb, eqb}
+use lib.Dec.{ltb}
 use borrow.Author.Tests.{ltb-true, ltb-false}
 use lib.ListN.{getD, length, take, drop, List·getD-eq-default, length-take}
 use lib.Seq.{getD-take, getD-drop}
-use Rattle.laws.specs.Choice.{either}
-use Rattle.laws.proofs.Cases.{Some, pick-some}
+use Rattle.laws.proofs.Cases.{Some}
+use Rattle.laws.proofs.Refusals.{among}
 use Rattle.packing.specs.Layout.{AreBytes}
-use Rattle.dates.specs.Calendar.{dateExists}
-use Rattle.records.specs.Form.{dateOf, Five}
-use Rattle.records.specs.Refusals.{outsideLimits, notZero, refusalOfRead}
-use Rattle.records.proofs.Passed.{some-own}
+use Rattle.records.specs.declared.OwnRefusal.the-variants as W
+use Rattle.records.specs.Form.{Five}
 use Rattle.codec.specs.declared.ReadAnswer.the-variants as R
 use Rattle.codec.specs.declared.ReadResult.{ReadResult}
-use Rattle.codec.specs.Bytes.{recordLength, bytesNumber}
-use Rattle.codec.specs.Reading.{readNumber, kindIn, rawIn, isKind, refusalOfNumber, refusalOfBytes, recordOfBytes, Reads}
+use Rattle.codec.specs.Bytes.{recordLength}
+use Rattle.codec.specs.Reading.{readNumber, refusalsOfBytes, refusalOfBytes, recordOfBytes, Reads}
+use Rattle.codec.proofs.Fine.{each-of-bytes}
 use Rattle.codec.proofs.Found.{found-five}
 use Rattle.held.specs.declared.Subject.{Subject}
 use Rattle.endpoints.specs.Lines.{VisitLine}
@@ -31,19 +30,10 @@ use Rattle.file.specs.Singly.{Adds, none, adds, opens, Called}
 use Rattle.parts.proofs.Cut.{one-part}
 
 -- each number that refuses bytes, and 0, is that of some case of reading's answer
-some-number : (n : ℕ) → Some readNumber (refusalOfNumber n)
-unfolding refusalOfNumber refusalOfRead
-some-number n =
-    let w = rawIn (kindIn n) n in
-    let r = w .read in
-    pick-some readNumber (not (isKind (kindIn n))) 2 _ (R.NoSuchKind, refl)
-    (some-own readNumber (R.NoSuchDate, refl) (R.OutsideLimits, refl) (R.NotZero, refl) (R.Done, refl) (not (dateExists (dateOf (r .entry)))) (either (w .badstatus) (outsideLimits (r .entry) (r .marks) (r .sizes)))
-    (either (w .spare) (notZero (r .entry) (r .marks) (r .sizes))))
-
 some-bytes : (s : List ℕ) → Some readNumber (refusalOfBytes s)
-unfolding refusalOfBytes
 some-bytes s =
-    pick-some readNumber (not (eqb (length s) recordLength)) 1 (refusalOfNumber (bytesNumber s)) (R.NotElevenBytes, refl) (some-number (bytesNumber s))
+    among (Some readNumber) (refusalsOfBytes s) (R.Done, refl)
+    (each-of-bytes (Some readNumber) (R.NotElevenBytes, refl) (R.NoSuchKind, refl) (R.Refused W.NoSuchDate, refl) (R.Refused W.OutsideLimits, refl) (R.Refused W.NotZero, refl) s)
 
 -- reading has an answer
 some-read : (part : List ℕ) → AreBytes part → (x : ReadResult) × Reads part x

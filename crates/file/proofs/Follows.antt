@@ -10,12 +10,16 @@ use native.Mathlib.Omega.{arith}
 use lib.Dec.{eqb}
 use borrow.Author.Tests.{eq-eqb, eqb-true, eqb-false}
 use Rattle.laws.specs.Choice.{pick}
+use Rattle.laws.specs.Refusals.{Refusal, _when_, first}
+use Rattle.laws.proofs.Refusals.{none-of-both}
 use Rattle.dates.specs.declared.Date.{Date}
 use Rattle.records.specs.declared.BaselineEntry.{BaselineEntry}
 use Rattle.records.specs.declared.Entry.{Entry}
 use Rattle.records.specs.declared.Entry.the-variants as E
 use Rattle.records.specs.declared.Record.{Record}
-use Rattle.codec.specs.Reading.{refusalOfBytes, recordOfBytes, afterReading}
+use Rattle.records.proofs.Passed.{none-after-own}
+use Rattle.codec.specs.Reading.{refusalsOfBytes, refusalOfBytes, recordOfBytes}
+use Rattle.codec.proofs.Fine.{bytes-numbered, after-reading}
 use Rattle.codec.proofs.Found.{found-five}
 use Rattle.endpoints.specs.Values.{Outcome, dayValue}
 use Rattle.endpoints.specs.StudyRecords.{Baseline, baseline, fieldsPass, entryOnStudyDay, onStudyDays}
@@ -23,9 +27,8 @@ use Rattle.endpoints.specs.Lawful.{Past}
 use Rattle.endpoints.specs.Course.{course, counting}
 use Rattle.endpoints.specs.Best.{firstResponse}
 use Rattle.endpoints.specs.Lines.{VisitLine, linesOf, visitLines, linesInOrder}
-use Rattle.endpoints.specs.Adding.{notBaseline, refusalOfOpening, refusalOfAdding}
+use Rattle.endpoints.specs.Adding.{notBaseline, refusalsOfOpening, refusalsOfAdding, refusalOfAdding}
 use Rattle.endpoints.proofs.Refusals.{own-passed}
-use Rattle.endpoints.proofs.Calls.{none-of-both}
 use Rattle.held.specs.declared.Subject.{Subject}
 use Rattle.held.specs.Summary.{countedOf, summary}
 use Rattle.held.proofs.Follows.{day-of-maybe}
@@ -41,7 +44,7 @@ use Rattle.outcome.specs.declared.OutcomeAnswer.{OutcomeAnswer}
 use Rattle.outcome.specs.Promises.{pfsHeld, durationHeld, outcomeOf, outcome, readingValues, Told}
 use Rattle.outcome.proofs.Follows.{pfs-held, duration-held, outcome-held}
 use Rattle.outcome.proofs.Within.{calls-in-range, reading-in-range}
-use Rattle.outcome.proofs.Demand.{first, base, on-day, past, past-one-more, Held, number, responses, grown}
+use Rattle.outcome.proofs.Demand.{opened-with, base, on-day, past, past-one-more, Held, number, responses, grown}
 use Rattle.file.specs.declared.FileAnswer.{FileAnswer}
 use Rattle.file.specs.File.{refusalOfPart, Verdict, refused, accepted, startsLate, verdictOn, fileValues}
 use Rattle.file.specs.Ending.{verdictHeld, Ends}
@@ -52,13 +55,13 @@ pub record Taken (rs : List Record) (s : Subject) : Type 0 where
   pub marks : List Bool
   pub sizes : List ℕ
   pub later : List Record
-  pub opens : rs ≡ first entry marks sizes ∷ later
+  pub opens : rs ≡ opened-with entry marks sizes ∷ later
   pub held : Held entry marks sizes later s
   pub passes : fieldsPass (baseline (base entry marks sizes)) ≡ true
 
 -- one record more that adding accepts
 pub taken-more : {rs : List Record} {s t : Subject} {a : AddAnswer} (h : Taken rs s) (r : Record) → Added s r a t →
-    eqb (refusalOfAdding (first (h .entry) (h .marks) (h .sizes) ∷ h .later) r) 0 ≡ true → Taken (rs ++ (r ∷ [])) t
+    eqb (refusalOfAdding (opened-with (h .entry) (h .marks) (h .sizes) ∷ h .later) r) 0 ≡ true → Taken (rs ++ (r ∷ [])) t
 taken-more h r added accepts =
     record {
       entry = h .entry;
@@ -70,13 +73,9 @@ taken-more h r added accepts =
       passes = h .passes;
     }
 
--- no refusal: reading refuses nothing, and the number after it is 0
-pub none-read : (part : List ℕ) (n : ℕ) → afterReading part n ≡ 0 → (refusalOfBytes part ≡ 0) × (n ≡ 0)
-none-read part n e = go (eqb (refusalOfBytes part) 0) refl
-  where
-    go : (x : Bool) → eqb (refusalOfBytes part) 0 ≡ x → (refusalOfBytes part ≡ 0) × (n ≡ 0)
-    go true q = (eqb-true (refusalOfBytes part) 0 q, rw q at e)
-    go false q = let met : refusalOfBytes part ≡ 0 = rw q at e in absurd (eqb-false (refusalOfBytes part) 0 q met)
+-- no refusal: reading refuses nothing, and none after it meets
+pub none-read : (part : List ℕ) (others : List Refusal) → first (refusalsOfBytes part ++ others) ≡ 0 → (refusalOfBytes part ≡ 0) × (first others ≡ 0)
+none-read part others e = none-of-both (refusalsOfBytes part) others (bytes-numbered part) .0 e
 
 -- ---- the first record
 
@@ -88,10 +87,10 @@ alone d (E.Therapy x) marks sizes = refl
 alone d (E.Death x) marks sizes = refl
 
 pub opened-taken : {a : OpenAnswer} {s : Subject} (e : Entry) (marks : List Bool) (sizes : List ℕ) → Opened (record { entry = e; sizes = sizes; marks = marks }) a s →
-    openNumber a ≡ 0 → notBaseline e ≡ 0 → Taken (record { entry = e; sizes = sizes; marks = marks } ∷ []) s
-unfolding openedSubject refusalOfOpening
+    openNumber a ≡ 0 → first (7 when notBaseline e ∷ []) ≡ 0 → Taken (record { entry = e; sizes = sizes; marks = marks } ∷ []) s
+unfolding openedSubject refusalsOfOpening
 opened-taken (E.Baseline x) marks sizes w z n =
-    let made : openedSubject (first x marks sizes) ≡ subjectOf (E.Baseline x) marks sizes = rw (← w .answer, z) in
+    let made : openedSubject (opened-with x marks sizes) ≡ subjectOf (E.Baseline x) marks sizes = rw (← w .answer, z) in
     record {
       entry = x;
       marks = marks;
@@ -99,20 +98,20 @@ opened-taken (E.Baseline x) marks sizes w z n =
       later = [];
       opens = refl;
       held = record { same = w .made ∙ made ∙ opening-follows x marks sizes; inside = calls-in-range .opened w z; lawfully = refl };
-      passes = own-passed (x .date) (first x marks sizes) (w .five) (none-of-both (first x marks sizes) 0 .0 (sym (w .answer) ∙ z) .0);
+      passes = own-passed (x .date) (opened-with x marks sizes) (w .five) (none-after-own (opened-with x marks sizes) _ .0 (sym (w .answer) ∙ z) .0);
     }
 opened-taken (E.Visit v) marks sizes w z n = absurd (let f : ⊥ = omega arith in f)
 opened-taken (E.Therapy d) marks sizes w z n = absurd (let f : ⊥ = omega arith in f)
 opened-taken (E.Death d) marks sizes w z n = absurd (let f : ⊥ = omega arith in f)
 
 pub first-taken : (part : List ℕ) (a : OpenAnswer) (s : Subject) → OpensBytes part a s → openNumber a ≡ 0 → Taken (recordOfBytes part ∷ []) s
-unfolding refusalOfOpening
+unfolding refusalsOfOpening
 first-taken part a s w z =
     let r = recordOfBytes part in
-    let none = none-read part (refusalOfOpening r) (sym (w .answer) ∙ z) .1 in
+    let none = none-read part (refusalsOfOpening r) (sym (w .answer) ∙ z) .1 in
     let opened : Opened r N.Done s = record { answer = sym none; made = w .made; five = found-five part } in
     opened-taken (r .entry) (r .marks) (r .sizes) opened refl
-    (none-of-both r (notBaseline (r .entry)) .0 none .1)
+    (none-after-own r _ .0 none .1)
 
 -- ---- a later record
 
@@ -120,7 +119,7 @@ module _ {rs : List Record} {s t : Subject} {a : AddAnswer} (h : Taken rs s) (r 
   pub adding : addNumber a ≡ refusalOfAdding rs r
   adding = number (h .entry) (h .marks) (h .sizes) (h .later) r (h .held) w ∙ ap (λ (l : List Record). refusalOfAdding l r) (sym (h .opens))
 
-  pub accepts : addNumber a ≡ 0 → eqb (refusalOfAdding (first (h .entry) (h .marks) (h .sizes) ∷ h .later) r) 0 ≡ true
+  pub accepts : addNumber a ≡ 0 → eqb (refusalOfAdding (opened-with (h .entry) (h .marks) (h .sizes) ∷ h .later) r) 0 ≡ true
   accepts z = eq-eqb _ 0 (sym (number (h .entry) (h .marks) (h .sizes) (h .later) r (h .held) w) ∙ z)
 
   pub more : addNumber a ≡ 0 → Taken (rs ++ (r ∷ [])) t
@@ -142,8 +141,8 @@ module _ {rs : List Record} {s t : Subject} {part : List ℕ} {a : AddAnswer} (h
   abbrev r : Record
   r = recordOfBytes part
 
-  read-then : addNumber a ≡ afterReading part (refusalOfAdding rs r)
-  read-then = go (eqb (refusalOfBytes part) 0) refl
+  read-then : addNumber a ≡ first (refusalsOfBytes part ++ refusalsOfAdding rs r)
+  read-then = go (eqb (refusalOfBytes part) 0) refl ∙ sym (after-reading part (refusalsOfAdding rs r))
     where
       go : (b : Bool) → eqb (refusalOfBytes part) 0 ≡ b → addNumber a ≡ pick b (refusalOfAdding rs r) (refusalOfBytes part)
       go true q = adding h r (calls-in-range .fromBytes w (eqb-true (refusalOfBytes part) 0 q))
@@ -154,7 +153,7 @@ module _ {rs : List Record} {s t : Subject} {part : List ℕ} {a : AddAnswer} (h
 
   -- done, so that the bytes were read
   pub later-added : addNumber a ≡ 0 → Added s r a t
-  later-added z = calls-in-range .fromBytes w (none-read part (refusalOfAdding rs r) (sym read-then ∙ z) .0)
+  later-added z = calls-in-range .fromBytes w (none-read part (refusalsOfAdding rs r) (sym read-then ∙ z) .0)
 
 -- ---- behind the last record
 
@@ -183,7 +182,7 @@ module _ {rs : List Record} {s : Subject} (t : Taken rs s) (last : ℕ) where
   unfolding summary countedOf
   first-held = day-of-maybe (firstResponse (counting (course b p)))
 
-  verdict-held : verdictIn held ≡ verdictOn (onStudyDays (first (t .entry) (t .marks) (t .sizes) ∷ t .later)) last
+  verdict-held : verdictIn held ≡ verdictOn (onStudyDays (opened-with (t .entry) (t .marks) (t .sizes) ∷ t .later)) last
   verdict-held =
       λ i.
       pick (startsLate (duration-held (t .entry .date) b p i) (first-held i) (pfs-held (t .entry .date) b p i)) (refused 14 last)

@@ -10,16 +10,18 @@ use lib.Dec.{eqb}
 use borrow.Author.Tests.{eq-eqb, eqb-true}
 use lib.ListN.{length}
 use Rattle.laws.specs.Choice.{pick}
+use Rattle.laws.specs.Refusals.{Refusal, first}
 use Rattle.records.specs.declared.Record.{Record}
 use Rattle.records.specs.Form.{dateOf}
 use Rattle.codec.specs.declared.ReadResult.{ReadResult}
 use Rattle.codec.specs.Bytes.{recordLength}
-use Rattle.codec.specs.Reading.{recordOfBytes, afterReading, Reads}
+use Rattle.records.proofs.Passed.{none-after-own}
+use Rattle.codec.specs.Reading.{refusalsOfBytes, recordOfBytes, Reads}
+use Rattle.codec.proofs.Fine.{after-reading}
 use Rattle.endpoints.specs.Values.{Outcome}
 use Rattle.endpoints.specs.StudyRecords.{onStudyDays}
 use Rattle.endpoints.specs.Lines.{VisitLine, linesInOrder}
-use Rattle.endpoints.specs.Adding.{notBaseline, refusalOfOpening, refusalOfAdding}
-use Rattle.endpoints.proofs.Calls.{none-of-both}
+use Rattle.endpoints.specs.Adding.{refusalsOfOpening, refusalOfOpening, refusalsOfAdding}
 use Rattle.held.specs.declared.Subject.{Subject}
 use Rattle.opening.specs.declared.OpenAnswer.{OpenAnswer}
 use Rattle.opening.specs.Opening.{openNumber, Opened}
@@ -38,8 +40,9 @@ use Rattle.file.proofs.Called.{called}
 use Rattle.file.proofs.Follows.{Taken, none-read, alone, opened-taken, adding, more, lines-more, EndsBy, told-verdict}
 
 -- reading's number, then the other, is the part's refusal
-read-then : (part : List ℕ) (x : ReadResult) (n m : ℕ) → Reads part x → n ≡ m → numberOf x n ≡ afterReading part m
-read-then part x n m w e = λ i. pick (eqb (w .answer i) 0) (e i) (w .answer i)
+read-then : (part : List ℕ) (x : ReadResult) (n : ℕ) (others : List Refusal) → Reads part x → n ≡ first others →
+    numberOf x n ≡ first (refusalsOfBytes part ++ others)
+read-then part x n others w e = (λ i. pick (eqb (w .answer i) 0) (e i) (w .answer i)) ∙ sym (after-reading part others)
 
 module _ {rs : List Record} {s t : Subject} {part : List ℕ} {x : ReadResult} {a : AddAnswer} (h : Taken rs s) (w : Reads part x) (v : Added s (x .found) a t) where
   abbrev r : Record
@@ -49,13 +52,13 @@ module _ {rs : List Record} {s t : Subject} {part : List ℕ} {x : ReadResult} {
   added-found = subst (λ (y : Record). Added s y a t) (w .found) v
 
   adds-number : numberOf x (addNumber a) ≡ refusalOfPart rs part
-  adds-number = read-then part x (addNumber a) (refusalOfAdding rs r) w (adding h r added-found) ∙ rw (h .opens)
+  adds-number = read-then part x (addNumber a) (refusalsOfAdding rs r) w (adding h r added-found) ∙ rw (h .opens)
 
   module _ (z : numberOf x (addNumber a) ≡ 0) where
     adds-done : addNumber a ≡ 0
     adds-done =
         adding h r added-found
-        ∙ none-read part (refusalOfAdding rs r) (sym (read-then part x (addNumber a) (refusalOfAdding rs r) w (adding h r added-found)) ∙ z) .1
+        ∙ none-read part (refusalsOfAdding rs r) (sym (read-then part x (addNumber a) (refusalsOfAdding rs r) w (adding h r added-found)) ∙ z) .1
 
     adds-taken : Taken (rs ++ (r ∷ [])) t
     adds-taken = more h r added-found adds-done
@@ -122,15 +125,15 @@ later-parts rs k {t = u} h (adds {t = t} {part = part} {x = x} {a = a} {ps = ps}
 module _ {s u : Subject} {part : List ℕ} {x : ReadResult} {a : OpenAnswer} {ps : List (List ℕ)} {ns : List ℕ} {ls : List VisitLine}
     (w : Reads part x) (v : Opened (x .found) a s) (c : Adds s ps ns ls u) where
   opening : numberOf x (openNumber a) ≡ refusalOfPart [] part
-  opening = read-then part x (openNumber a) (refusalOfOpening (recordOfBytes part)) w (v .answer ∙ ap refusalOfOpening (w .found))
+  opening = read-then part x (openNumber a) (refusalsOfOpening (recordOfBytes part)) w (v .answer ∙ ap refusalOfOpening (w .found))
 
   opened : numberOf x (openNumber a) ≡ 0 → Taken (recordOfBytes part ∷ []) s
-  unfolding refusalOfOpening
+  unfolding refusalsOfOpening
   opened z =
       let r = recordOfBytes part in
-      let passes = none-read part (refusalOfOpening r) (sym opening ∙ z) .1 in
+      let passes = none-read part (refusalsOfOpening r) (sym opening ∙ z) .1 in
       let found : Opened r a s = subst (λ (y : Record). Opened y a s) (w .found) v in
-      opened-taken (r .entry) (r .marks) (r .sizes) found (found .answer ∙ passes) (none-of-both r (notBaseline (r .entry)) .0 passes .1)
+      opened-taken (r .entry) (r .marks) (r .sizes) found (found .answer ∙ passes) (none-after-own r _ .0 passes .1)
 
   all-parts : EndedBy (firstRefusal 0 (numberOf x (openNumber a) ∷ ns)) [] 0 (part ∷ ps) ls (verdictFrom [] 0 (part ∷ ps)) u
   all-parts = go (eqb (numberOf x (openNumber a)) 0) refl (λ h. later-parts (recordOfBytes part ∷ []) 1 h c)

@@ -10,6 +10,7 @@ use Rattle.records.specs.declared.Record.{Record}
 use Rattle.records.specs.declared.Status.the-variants as S
 use Rattle.records.specs.Examples.{baselineDated, visitDated}
 use Rattle.codec.specs.Examples.{eleven, printedBytes, printedVisitBytes, oneTargetBytes, missingBytes, therapyBytes, deathBytes}
+use Rattle.records.specs.declared.OwnRefusal.the-variants as W
 use Rattle.codec.specs.declared.ReadAnswer.{ReadAnswer}
 use Rattle.codec.specs.declared.ReadAnswer.the-variants as R
 use Rattle.codec.specs.declared.ReadResult.{ReadResult}
@@ -95,7 +96,7 @@ reading a = record { answer = a; found = blank }
 
 -- the first refusal of calls one by one
 pub record FirstOfCalls : Type 0 where
-  pub readFirst : numberOf (reading R.NoSuchDate) 10 ≡ 3
+  pub readFirst : numberOf (reading (R.Refused W.NoSuchDate)) 10 ≡ 3
   pub thenAdded : numberOf (reading R.Done) 10 ≡ 10
   pub atIndex2 : firstRefusal 0 (0 ∷ 0 ∷ 10 ∷ 9 ∷ []) ≡ at 10 2
   pub none : firstRefusal 0 (0 ∷ 0 ∷ []) ≡ never

@@ -7,8 +7,9 @@ use Prim.Native.Nat.{ℕ, suc, _-_}
 use lib.Dec.{ltb, eqb}
 use lib.ListN.{length}
 use Rattle.laws.specs.Choice.{both, pick}
+use Rattle.laws.specs.Refusals.{Refusal, first}
 use Rattle.records.specs.declared.Record.{Record}
-use Rattle.codec.specs.Reading.{recordOfBytes, afterReading}
+use Rattle.codec.specs.Reading.{refusalsOfBytes, recordOfBytes}
 use Rattle.parts.specs.Parts.{badLength, partsOf}
 use Rattle.endpoints.specs.Values.{Day, none, on, Pfs, Duration, exists, Outcome}
 use Rattle.endpoints.specs.StudyRecords.{Baseline, StudyRecord, onStudyDays, fromBaseline}
@@ -17,15 +18,18 @@ use Rattle.endpoints.specs.Course.{Course, course, counting}
 use Rattle.endpoints.specs.Pfs.{pfs}
 use Rattle.endpoints.specs.Best.{firstResponse, duration}
 use Rattle.endpoints.specs.Lasting.{outcomeInOrder}
-use Rattle.endpoints.specs.Adding.{refusalOfOpening, refusalOfAdding}
+use Rattle.endpoints.specs.Adding.{refusalsOfOpening, refusalsOfAdding}
 use Rattle.outcome.specs.Promises.{outcomeValues}
 use Rattle.file.specs.declared.FileAnswer.{FileAnswer}
 use Rattle.file.specs.declared.FileAnswer.the-variants as F
 
 -- 2 to 5 where reading refuses the bytes, of which there are 11; then 7 for the first record and 8 to 11 for later ones, judged against the records before it
+abbrev pub refusalsOfPart : List Record → List ℕ → List Refusal
+refusalsOfPart [] part = refusalsOfBytes part ++ refusalsOfOpening (recordOfBytes part)
+refusalsOfPart (b ∷ rs) part = refusalsOfBytes part ++ refusalsOfAdding (b ∷ rs) (recordOfBytes part)
+
 abbrev pub refusalOfPart : List Record → List ℕ → ℕ
-refusalOfPart [] part = afterReading part (refusalOfOpening (recordOfBytes part))
-refusalOfPart (b ∷ rs) part = afterReading part (refusalOfAdding (b ∷ rs) (recordOfBytes part))
+refusalOfPart rs part = first (refusalsOfPart rs part)
 
 -- a refusal's number and the index of a record, or the outcome with its marks
 pub data Verdict : Type 0 where

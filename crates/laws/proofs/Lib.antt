@@ -3,3 +3,4 @@ pub mod Every
 pub mod Some
 pub mod Lists
 pub mod Cases
+pub mod Refusals

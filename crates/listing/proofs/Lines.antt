@@ -7,16 +7,17 @@ use native.Mathlib.Omega.{arith}
 use borrow.Author.Tests.{eqb-true}
 use lib.ListN.{length}
 use Rattle.dates.specs.declared.Date.{Date}
+use Rattle.laws.specs.Refusals.{first}
 use Rattle.records.specs.declared.Entry.{Entry}
 use Rattle.records.specs.declared.Entry.the-variants as E
 use Rattle.records.specs.declared.Record.{Record}
 use Rattle.records.specs.Form.{Five}
 use Rattle.records.specs.Refusals.{refusalOf}
+use Rattle.records.proofs.Passed.{none-after-own}
 use Rattle.endpoints.specs.StudyRecords.{Baseline, StudyRecord, dayOf, entryOnStudyDay}
 use Rattle.endpoints.specs.Lawful.{Past}
 use Rattle.endpoints.specs.Lines.{linesOf}
-use Rattle.endpoints.specs.Adding.{refusalBehind, refusalOfAdding}
-use Rattle.endpoints.proofs.Calls.{none-of-both}
+use Rattle.endpoints.specs.Adding.{refusalsBehind, refusalsOfAdding}
 use Rattle.endpoints.proofs.Refusals.{one-more, own-passed}
 use Rattle.held.specs.declared.Subject.{Subject}
 use Rattle.placing.specs.declared.AddAnswer.{AddAnswer}
@@ -44,14 +45,12 @@ short-responses A.Done h = (tt, omega arith)
 short-responses (A.Judged v) h = ((record { day = h .0 .day; change = h .0 .change }, tt), subst (λ (t : List ℕ). length t ≤ 24) (sym (append-nil (visitText (responseValues v)))) (h .0 .whole))
 short-responses A.NotElevenBytes h = (tt, omega arith)
 short-responses A.NoSuchKind h = (tt, omega arith)
-short-responses A.NoSuchDate h = (tt, omega arith)
-short-responses A.OutsideLimits h = (tt, omega arith)
-short-responses A.NotZero h = (tt, omega arith)
 short-responses A.SecondBaseline h = (tt, omega arith)
 short-responses A.AfterDeath h = (tt, omega arith)
 short-responses A.TooEarly h = (tt, omega arith)
 short-responses A.Misfit h = (tt, omega arith)
 short-responses A.OutOfRange h = (tt, omega arith)
+short-responses (A.Refused own) h = (tt, omega arith)
 
 -- the responses that an addition answers are short
 module _ {rs : List Record} {s t : Subject} {a : AddAnswer} (h : Taken rs s) (r : Record) (five : Five r) (w : Added s r a t) (z : addNumber a ≡ 0) where
@@ -64,9 +63,9 @@ module _ {rs : List Record} {s t : Subject} {a : AddAnswer} (h : Taken rs s) (r 
   abbrev next : StudyRecord
   next = on-day (h .entry) (h .marks) (h .sizes) r
 
-  both-none : (refusalOf r ≡ 0) × (refusalBehind b p next ≡ 0)
-  unfolding refusalOfAdding
-  both-none = none-of-both r (refusalBehind b p next) .0 (eqb-true _ 0 (accepts h r w z))
+  both-none : (refusalOf r ≡ 0) × (first (refusalsBehind b p next) ≡ 0)
+  unfolding refusalsOfAdding
+  both-none = none-after-own r (refusalsBehind b p next) .0 (eqb-true _ 0 (accepts h r w z))
 
   shown : addResponses a ≡ linesOf b p next
   shown = responses (h .entry) (h .marks) (h .sizes) (h .later) r (h .held) w ∙ rw (accepts h r w z)

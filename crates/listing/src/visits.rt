@@ -101,13 +101,11 @@ pub(crate) fn put_lines(page: &mut [u8], at: usize, answer: AddAnswer) -> usize
         AddAnswer::Judged(v) => put_visit(page, at, v),
         AddAnswer::NotElevenBytes => at,
         AddAnswer::NoSuchKind => at,
-        AddAnswer::NoSuchDate => at,
-        AddAnswer::OutsideLimits => at,
-        AddAnswer::NotZero => at,
         AddAnswer::SecondBaseline => at,
         AddAnswer::AfterDeath => at,
         AddAnswer::TooEarly => at,
         AddAnswer::Misfit => at,
         AddAnswer::OutOfRange => at,
+        AddAnswer::Refused(_) => at,
     }
 }

@@ -3,12 +3,12 @@
 -- Assumes nothing.
 use mathlib.Core.Path.{refl}
 use Rattle.dates.specs.Calendar.{leapYear, daysInMonth, dateExists}
-use Rattle.records.specs.Refusals.{wrongSize, largeMeasured, setBeyond, sizedUnmeasured, withoutDisease, outsideLimits, notZero, refusalOfRead}
+use Rattle.records.specs.Refusals.{wrongSize, largeMeasured, setBeyond, sizedUnmeasured, withoutDisease, outsideLimits, notZero, refusalsOfRead}
 use Rattle.criteria.specs.Sums.{baselineSum}
-use Rattle.endpoints.specs.Adding.{refusalOfOpening}
+use Rattle.endpoints.specs.Adding.{refusalsOfOpening}
 use Rattle.opening.specs.Opening.{firstSubject, blank, openedSubject}
 use Rattle.opening.specs.Examples.{OpenedAtTheEdges}
 
 pub opened-at-the-edges : OpenedAtTheEdges
-unfolding leapYear daysInMonth dateExists wrongSize largeMeasured setBeyond sizedUnmeasured withoutDisease outsideLimits notZero refusalOfRead baselineSum refusalOfOpening firstSubject blank openedSubject
+unfolding leapYear daysInMonth dateExists wrongSize largeMeasured setBeyond sizedUnmeasured withoutDisease outsideLimits notZero refusalsOfRead baselineSum refusalsOfOpening firstSubject blank openedSubject
 opened-at-the-edges = record { numbers = refl; printed = refl; withoutNontarget = refl; noDate = refl; visit = refl; therapy = refl; death = refl }

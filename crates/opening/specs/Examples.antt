@@ -6,6 +6,7 @@ use mathlib.Core.Bool.{true, false}
 use mathlib.Core.List.{[], _∷_, map}
 use Rattle.dates.specs.Laws.{ymd}
 use Rattle.records.specs.Examples.{fivePlaces, baselineDated, therapyDated, deathDated}
+use Rattle.records.specs.declared.OwnRefusal.the-variants as N
 use Rattle.endpoints.specs.declared.MaybeDay.the-variants as M
 use Rattle.endpoints.specs.AddingExamples.{printedBaseline, visited}
 use Rattle.held.specs.declared.Subject.{Subject}
@@ -21,7 +22,7 @@ zeros =
 
 pub record OpenedAtTheEdges : Type 0 where
   -- 1 to 5; 7 not a baseline
-  pub numbers : map openNumber (O.Done ∷ O.NotElevenBytes ∷ O.NoSuchKind ∷ O.NoSuchDate ∷ O.OutsideLimits ∷ O.NotZero ∷ O.NotBaseline ∷ []) ≡ 0 ∷ 1 ∷ 2 ∷ 3 ∷ 4 ∷ 5 ∷ 7 ∷ []
+  pub numbers : map openNumber (O.Done ∷ O.NotElevenBytes ∷ O.NoSuchKind ∷ O.Refused N.NotZero ∷ O.NotBaseline ∷ []) ≡ 0 ∷ 1 ∷ 2 ∷ 5 ∷ 7 ∷ []
   -- its date is the randomisation date; the latest day starts at 1; whether it has non-target lesions
   pub printed : openedSubject (printedBaseline (ymd 2020 1 1)) ≡ printedOpened
   pub withoutNontarget : openedSubject (baselineDated (ymd 2020 1 1) true false 1 [] (100 ∷ [])) .enrolment .nontarget ≡ false

@@ -4,8 +4,9 @@ use mathlib.Core.Path.{_≡_}
 use Prim.Native.Nat.{ℕ}
 use lib.Dec.{eqb}
 use Rattle.laws.specs.Choice.{pick}
+use Rattle.laws.specs.Refusals.{_when_, first}
 use mathlib.Core.Bool.{Bool, false}
-use mathlib.Core.List.{List, [], _∷_}
+use mathlib.Core.List.{List, [], _∷_, _++_}
 use Rattle.dates.specs.declared.StudyDay.{StudyDay}
 use Rattle.dates.specs.Laws.{ymd}
 use Rattle.records.specs.declared.BaselineEntry.{BaselineEntry}
@@ -13,13 +14,14 @@ use Rattle.records.specs.declared.Entry.{Entry}
 use Rattle.records.specs.declared.Entry.the-variants as E
 use Rattle.records.specs.declared.Record.{Record}
 use Rattle.records.specs.Form.{Five}
+use Rattle.records.specs.Refusals.{ownNumber}
 use Rattle.packing.specs.Layout.{AreBytes}
-use Rattle.codec.specs.Reading.{recordOfBytes, afterReading}
+use Rattle.codec.specs.Reading.{refusalsOfBytes, recordOfBytes}
 use Rattle.criteria.specs.Inputs.{diseaseOf}
 use Rattle.criteria.specs.Nadir.{leftBy}
 use Rattle.endpoints.specs.declared.BestResponse.the-variants as B
 use Rattle.endpoints.specs.declared.MaybeDay.the-variants as M
-use Rattle.endpoints.specs.Adding.{notBaseline, refusalOfOpening}
+use Rattle.endpoints.specs.Adding.{notBaseline, refusalsOfOpening, refusalOfOpening}
 use Rattle.opening.specs.declared.OpenAnswer.{OpenAnswer}
 use Rattle.opening.specs.declared.OpenAnswer.the-variants as O
 use Rattle.held.specs.declared.EventDays.{EventDays}
@@ -75,9 +77,7 @@ abbrev pub openNumber : OpenAnswer → ℕ
 openNumber O.Done = 0
 openNumber O.NotElevenBytes = 1
 openNumber O.NoSuchKind = 2
-openNumber O.NoSuchDate = 3
-openNumber O.OutsideLimits = 4
-openNumber O.NotZero = 5
+openNumber (O.Refused own) = ownNumber own
 openNumber O.NotBaseline = 7
 
 -- the subject that a baseline opens; any other record is refused
@@ -89,7 +89,7 @@ subjectOf (E.Death d) marks sizes = blank
 
 -- opening with a record that none of its own refusals meets
 pub record OpensChecked (e : Entry) (marks : List Bool) (sizes : List ℕ) (a : OpenAnswer) (s : Subject) : Type 0 where
-  pub answer : openNumber a ≡ notBaseline e
+  pub answer : openNumber a ≡ first (7 when notBaseline e ∷ [])
   pub made : s ≡ subjectOf e marks sizes
 
 -- beside a refusal one fixed blank
@@ -104,7 +104,7 @@ pub record Opened (r : Record) (a : OpenAnswer) (s : Subject) : Type 0 where
 
 -- from bytes: 1 and 2 before these; the one record that stands beside a refusal of bytes opens no subject
 pub record OpensBytes (s : List ℕ) (a : OpenAnswer) (t : Subject) : Type 0 where
-  pub answer : openNumber a ≡ afterReading s (refusalOfOpening (recordOfBytes s))
+  pub answer : openNumber a ≡ first (refusalsOfBytes s ++ refusalsOfOpening (recordOfBytes s))
   pub made : t ≡ openedSubject (recordOfBytes s)
   -- the type `u8` gives it
   pub octets : AreBytes s

@@ -15,6 +15,7 @@ use held::Subject;
 use records::BaselineEntry;
 use records::CheckAnswer;
 use records::Entry;
+use records::OwnRefusal;
 use records::Record;
 ghost use mathlib.Core.Path.{_≡_};
 ghost use Rattle.opening.specs.Opening.{noVisits, nothingCounted, firstSubject, blank, openNumber, OpensChecked, Opened, OpensBytes};
@@ -24,9 +25,7 @@ pub enum OpenAnswer {
     // This and the next from bytes alone.
     NotElevenBytes,
     NoSuchKind,
-    NoSuchDate,
-    OutsideLimits,
-    NotZero,
+    Refused(OwnRefusal),
     NotBaseline,
 }
 
@@ -44,9 +43,7 @@ pub fn open_number(answer: OpenAnswer) -> u8
         OpenAnswer::Done => 0,
         OpenAnswer::NotElevenBytes => 1,
         OpenAnswer::NoSuchKind => 2,
-        OpenAnswer::NoSuchDate => 3,
-        OpenAnswer::OutsideLimits => 4,
-        OpenAnswer::NotZero => 5,
+        OpenAnswer::Refused(own) => records::own_number(own),
         OpenAnswer::NotBaseline => 7,
     }
 }
@@ -167,9 +164,7 @@ pub fn open_subject(r: Record) -> OpenResult
     let marks = r.marks;
     let sizes = r.sizes;
     match records::check(r) {
-        CheckAnswer::NoSuchDate => refused(OpenAnswer::NoSuchDate),
-        CheckAnswer::OutsideLimits => refused(OpenAnswer::OutsideLimits),
-        CheckAnswer::NotZero => refused(OpenAnswer::NotZero),
+        CheckAnswer::Refused(own) => refused(OpenAnswer::Refused(own)),
         CheckAnswer::Passed => open_checked(entry, marks, sizes),
     }
 }
@@ -188,8 +183,6 @@ pub fn open_bytes(bytes: &[u8]) -> OpenResult
         ReadAnswer::Done => open_checked(entry, marks, sizes),
         ReadAnswer::NotElevenBytes => refused(OpenAnswer::NotElevenBytes),
         ReadAnswer::NoSuchKind => refused(OpenAnswer::NoSuchKind),
-        ReadAnswer::NoSuchDate => refused(OpenAnswer::NoSuchDate),
-        ReadAnswer::OutsideLimits => refused(OpenAnswer::OutsideLimits),
-        ReadAnswer::NotZero => refused(OpenAnswer::NotZero),
+        ReadAnswer::Refused(own) => refused(OpenAnswer::Refused(own)),
     }
 }

@@ -2,22 +2,23 @@
 -- Assumes nothing.
 use mathlib.Core.Path.{_≡_, refl, sym, _∙_, ap}
 use mathlib.Core.Bool.{Bool, true, false, not}
-use mathlib.Core.List.{List, [], _∷_}
+use mathlib.Core.List.{List, [], _∷_, _++_}
 use Prim.Native.Nat.{ℕ, zero, suc}
 use lib.Dec.{ltb, eqb}
 use lib.ListN.{getD}
 use borrow.Author.Tests.{eqb-true, eqb-false}
 use Rattle.laws.specs.Choice.{both, either, pick}
+use Rattle.laws.specs.Refusals.{_when_}
 use Rattle.laws.proofs.Cases.{Some, pick-some}
+use Rattle.laws.proofs.Refusals.{among, each-append}
 use Rattle.dates.specs.declared.StudyDay.{StudyDay}
-use Rattle.dates.specs.Calendar.{dateExists}
 use Rattle.records.specs.declared.Entry.{Entry}
 use Rattle.records.specs.declared.Entry.the-variants as E
 use Rattle.records.specs.declared.VisitEntry.{VisitEntry}
 use Rattle.records.specs.declared.Record.{Record}
-use Rattle.records.specs.Form.{dateOf, kindNumber}
-use Rattle.records.specs.Refusals.{outsideLimits, notZero, refusalOfRead, refusalOf}
-use Rattle.records.proofs.Passed.{some-own}
+use Rattle.records.specs.declared.OwnRefusal.the-variants as N
+use Rattle.records.specs.Refusals.{refusalsOf}
+use Rattle.records.proofs.Passed.{each-own}
 use Rattle.criteria.specs.declared.Target.the-variants as T
 use Rattle.criteria.specs.declared.Overall.the-variants as O
 use Rattle.criteria.specs.declared.ChangeAnswer.the-variants as C
@@ -30,8 +31,6 @@ use Rattle.criteria.specs.Visits.{overallAnswer}
 use Rattle.criteria.specs.declared.BaselineDisease.{BaselineDisease}
 use Rattle.criteria.specs.declared.Earlier.{Earlier}
 use Rattle.criteria.specs.Change.{signed, roundedChange, changeValues, changeBetween, changeOf}
-use Rattle.endpoints.specs.Values.{isRecorded, dayValue}
-use Rattle.endpoints.specs.Adding.{afterOwn}
 use Rattle.endpoints.specs.Lines.{VisitLine}
 use Rattle.held.specs.declared.Enrolment.{Enrolment}
 use Rattle.held.specs.declared.FollowUp.{FollowUp}
@@ -41,8 +40,9 @@ use Rattle.placing.specs.declared.AddAnswer.{AddAnswer}
 use Rattle.placing.specs.declared.AddAnswer.the-variants as A
 use Rattle.placing.specs.Added.{answerOn}
 use Rattle.placing.specs.Lines.{responseValues, addResponses, lineOn, linesOn}
-use Rattle.placing.specs.Refusals.{addNumber, earlyOn, misfitOn, refusalOn}
-use Rattle.placing.specs.Promises.{dayOn, refusalOnDay, responsesBy, subjectBy, refusalHeld, Added}
+use Rattle.placing.specs.Refusals.{addNumber}
+use Rattle.placing.proofs.Within.{each-on}
+use Rattle.placing.specs.Promises.{dayOn, refusalsOnDay, responsesBy, subjectBy, refusalHeld, Added}
 
 -- ---- the responses at a visit
 
@@ -125,25 +125,14 @@ some-responses e f day v measured sizes =
 
 -- ---- a refusal
 
-some-placing : (second dead early misfit : Bool) → Some addNumber (pick second 8 (pick dead 9 (pick early 10 (pick misfit 11 0))))
-some-placing true dead early misfit = (A.SecondBaseline, refl)
-some-placing false true early misfit = (A.AfterDeath, refl)
-some-placing false false true misfit = (A.TooEarly, refl)
-some-placing false false false true = (A.Misfit, refl)
-some-placing false false false false = (A.Done, refl)
-
-pub some-behind : (s : Subject) (r : Record) → Some addNumber (refusalOnDay s r)
-unfolding refusalOn
-some-behind s r =
-    some-placing (eqb (kindNumber (r .entry)) 1) (isRecorded (dayValue (s .followup .death))) (earlyOn (s .followup) (dayOn s r) (r .entry)) (misfitOn (s .enrolment) (r .entry) (r .marks))
-
-pub some-refusal : (s : Subject) (r : Record) → Some addNumber (refusalHeld s r)
-unfolding refusalHeld refusalOfRead
+some-refusal : (s : Subject) (r : Record) → Some addNumber (refusalHeld s r)
+unfolding refusalHeld
 some-refusal s r =
-    pick-some addNumber (inRange s) (afterOwn r (refusalOnDay s r)) 12
-    (pick-some addNumber (eqb (refusalOf r) 0) (refusalOnDay s r) (refusalOf r) (some-behind s r)
-    (some-own addNumber (A.NoSuchDate, refl) (A.OutsideLimits, refl) (A.NotZero, refl) (A.Done, refl) (not (dateExists (dateOf (r .entry)))) (outsideLimits (r .entry) (r .marks) (r .sizes)) (notZero (r .entry) (r .marks) (r .sizes))))
-    (A.OutOfRange, refl)
+    let own = each-own (Some addNumber) (A.Refused N.NoSuchDate, refl) (A.Refused N.OutsideLimits, refl) (A.Refused N.NotZero, refl) r false false in
+    let behind = each-on (Some addNumber) (A.SecondBaseline, refl) (A.AfterDeath, refl) (A.TooEarly, refl) (A.Misfit, refl) (s .enrolment) (s .followup) (dayOn s r)
+    (r .entry) (r .marks) in
+    among (Some addNumber) (12 when not (inRange s) ∷ refusalsOf r ++ refusalsOnDay s r) (A.Done, refl)
+    ((A.OutOfRange, refl), each-append (Some addNumber) (refusalsOf r) (refusalsOnDay s r) own behind)
 
 -- ---- an answer
 
@@ -163,14 +152,12 @@ none-beside A.Done h = refl
 none-beside (A.Judged v) h = absurd (eqb-false 0 0 h refl)
 none-beside A.NotElevenBytes h = refl
 none-beside A.NoSuchKind h = refl
-none-beside A.NoSuchDate h = refl
-none-beside A.OutsideLimits h = refl
-none-beside A.NotZero h = refl
 none-beside A.SecondBaseline h = refl
 none-beside A.AfterDeath h = refl
 none-beside A.TooEarly h = refl
 none-beside A.Misfit h = refl
 none-beside A.OutOfRange h = refl
+none-beside (A.Refused own) h = refl
 
 pub some-answer : (s : Subject) (r : Record) (n : ℕ) → Some addNumber n → (a : AddAnswer) × (addNumber a ≡ n) × (addResponses a ≡ responsesBy s r n)
 some-answer s r n some = go (eqb n 0) refl

@@ -3,12 +3,16 @@
 -- Assumes nothing.
 use mathlib.Core.Path.{_≡_, sym, _∙_, ap}
 use mathlib.Core.Bool.{true, false}
-use mathlib.Core.List.{[], _∷_}
+use mathlib.Core.List.{List, [], _∷_, _++_}
+use Prim.Native.Nat.{ℕ}
 use lib.Dec.{eqb}
 use borrow.Author.Tests.{eqb-true}
 use Rattle.laws.specs.Choice.{pick}
+use Rattle.laws.specs.Refusals.{Refusal, first}
 use Rattle.dates.specs.declared.Date.{Date}
 use Rattle.records.specs.declared.Record.{Record}
+use Rattle.records.specs.Refusals.{refusalsOf}
+use Rattle.records.proofs.Passed.{none-after-own}
 use Rattle.endpoints.specs.Values.{isRecorded, dayValue}
 use Rattle.endpoints.specs.StudyRecords.{Baseline, StudyRecord, onStudyDay}
 use Rattle.endpoints.specs.Lawful.{Past, deathDay, lawfulBehind}
@@ -17,17 +21,16 @@ use Rattle.endpoints.specs.Pfs.{beforeEvent, lastVisit, lastEvaluable, pfsOf, p
 use Rattle.endpoints.specs.Best.{confirmedCR, confirmedResponse, stable, best, firstResponse, durationOf, duration}
 use Rattle.endpoints.specs.Lines.{linesOf}
 use Rattle.endpoints.specs.Settled.{pfsSettledBy, bestSettledBy, durationSettledBy, pfsSettled, bestSettled, durationSettled, outcome}
-use Rattle.endpoints.specs.Adding.{refusalBehind, afterOwn}
+use Rattle.endpoints.specs.Adding.{refusalsBehind}
 use Rattle.endpoints.proofs.Behind.{latest-in, death-in}
 use Rattle.endpoints.proofs.Refusals.{one-more}
-use Rattle.endpoints.proofs.Calls.{none-of-both}
 use Rattle.held.specs.declared.Subject.{Subject}
 use Rattle.held.specs.Range.{inRange}
 use Rattle.held.specs.Days.{maybe}
 use Rattle.held.specs.Summary.{eventOf, countedOf, summary}
 use Rattle.held.proofs.Follows.{day-of-maybe, best-of-held}
 use Rattle.placing.specs.Promises.{responsesBy, subjectBy, refusalHeld}
-use Rattle.placing.proofs.Follows.{refusal-follows, lines-follow, adding-follows}
+use Rattle.placing.proofs.Follows.{refusals-follow, lines-follow, adding-follows}
 use Rattle.outcome.specs.Promises.{pfsHeld, bestHeld, durationHeld, pfsSettledHeld, bestSettledHeld, outcomeOf}
 
 module _ (randomisation : Date) (b : Baseline) (p : Past) where
@@ -38,23 +41,27 @@ module _ (randomisation : Date) (b : Baseline) (p : Past) where
     abbrev on-day : StudyRecord
     on-day = onStudyDay randomisation r
 
-    pub refusal-held : refusalHeld held r ≡ afterOwn r (refusalBehind b p on-day)
+    -- 3 to 5, then 8 to 11 judged against the list
+    abbrev pub refusal : ℕ
+    refusal = first (refusalsOf r ++ refusalsBehind b p on-day)
+
+    pub refusal-held : refusalHeld held r ≡ refusal
     unfolding refusalHeld summary
-    refusal-held = rw inside (ap (afterOwn r) (refusal-follows randomisation b p (r .entry) (r .marks) (r .sizes)))
+    refusal-held = rw inside (ap (λ (rs : List Refusal). first (refusalsOf r ++ rs)) (refusals-follow randomisation b p (r .entry) (r .marks) (r .sizes)))
 
     -- the responses that an addition answers are those of the list
-    pub responses-held : responsesBy held r (refusalHeld held r) ≡ pick (eqb (afterOwn r (refusalBehind b p on-day)) 0) (linesOf b p on-day) []
+    pub responses-held : responsesBy held r (refusalHeld held r) ≡ pick (eqb refusal 0) (linesOf b p on-day) []
     unfolding summary
     responses-held = λ i. pick (eqb (refusal-held i) 0) (lines-follow randomisation b p (r .entry) (r .marks) (r .sizes) i) []
 
-    pub longer-lawful : lawfulBehind b p ≡ true → eqb (afterOwn r (refusalBehind b p on-day)) 0 ≡ true → lawfulBehind b (on-day ∷ p) ≡ true
-    longer-lawful l e = one-more b p on-day l .0 (none-of-both r (refusalBehind b p on-day) .0 (eqb-true (afterOwn r (refusalBehind b p on-day)) 0 e) .1)
+    pub longer-lawful : lawfulBehind b p ≡ true → eqb refusal 0 ≡ true → lawfulBehind b (on-day ∷ p) ≡ true
+    longer-lawful l e = one-more b p on-day l .0 (none-after-own r (refusalsBehind b p on-day) .0 (eqb-true refusal 0 e) .1)
 
-    pub added-held : lawfulBehind b p ≡ true → eqb (afterOwn r (refusalBehind b p on-day)) 0 ≡ true → subjectBy held r (refusalHeld held r) ≡ summary randomisation b (on-day ∷ p)
+    pub added-held : lawfulBehind b p ≡ true → eqb refusal 0 ≡ true → subjectBy held r (refusalHeld held r) ≡ summary randomisation b (on-day ∷ p)
     unfolding summary
     added-held l e = rw (refusal-held, e) (adding-follows randomisation b p (r .entry) (r .marks) (r .sizes) (longer-lawful l e))
 
-    pub refused-held : eqb (afterOwn r (refusalBehind b p on-day)) 0 ≡ false → subjectBy held r (refusalHeld held r) ≡ held
+    pub refused-held : eqb refusal 0 ≡ false → subjectBy held r (refusalHeld held r) ≡ held
     unfolding summary
     refused-held e = rw (refusal-held, e)
 

@@ -1,20 +1,20 @@
 -- Every opening, reading and list of calls runs: whatever the promises say, some answer says it.
 -- Assumes nothing.
 use mathlib.Core.Path.{_≡_, refl, ap}
-use mathlib.Core.Bool.{Bool, true, false, not}
+use mathlib.Core.Bool.{Bool, true, false}
 use mathlib.Core.List.{List, [], _∷_}
-use lib.Dec.{eqb}
-use Rattle.laws.specs.Choice.{pick}
-use Rattle.laws.proofs.Cases.{Some, pick-some}
+use Rattle.laws.specs.Refusals.{_when_, Each}
+use Rattle.laws.proofs.Cases.{Some}
+use Rattle.laws.proofs.Refusals.{among, each-append}
+use Rattle.records.specs.declared.OwnRefusal.the-variants as W
 use Rattle.records.specs.declared.Record.{Record}
-use Rattle.dates.specs.Calendar.{dateExists}
-use Rattle.records.specs.Form.{dateOf, kindNumber, Five}
-use Rattle.records.specs.Refusals.{outsideLimits, notZero, refusalOfRead, refusalOf}
-use Rattle.records.proofs.Passed.{some-own}
+use Rattle.records.specs.Form.{Five}
+use Rattle.records.specs.Refusals.{refusalsOf}
+use Rattle.records.proofs.Passed.{each-own}
 use Rattle.endpoints.specs.declared.PfsStatus.the-variants as P
 use Rattle.endpoints.specs.declared.DurationAnswer.the-variants as D
 use Rattle.endpoints.specs.Values.{PfsWord, EVENT, CENSORED, Duration, noDuration, forDays, wordOfStatus, durationValues}
-use Rattle.endpoints.specs.Adding.{notBaseline, refusalOfOpening, Call, add, read}
+use Rattle.endpoints.specs.Adding.{notBaseline, refusalsOfOpening, Call, add, read}
 use Rattle.held.specs.declared.Subject.{Subject}
 use Rattle.opening.specs.declared.OpenAnswer.{OpenAnswer}
 use Rattle.opening.specs.declared.OpenAnswer.the-variants as N
@@ -27,16 +27,12 @@ use Rattle.outcome.specs.Promises.{pfsHeld, durationHeld, outcomeOf, rea
 use Rattle.outcome.specs.Demand3.{none, adds, reads, Runs}
 use Rattle.outcome.proofs.Answers.{some-addition}
 
-some-kind : (baseline : Bool) → Some openNumber (pick baseline 0 7)
-some-kind true = (N.Done, refl)
-some-kind false = (N.NotBaseline, refl)
-
 pub opens : (b : Record) → Five b → (a : OpenAnswer) × (s : Subject) × Opened b a s
-unfolding refusalOfOpening refusalOfRead
+unfolding refusalsOfOpening
 opens b five =
-    let answer = pick-some openNumber (eqb (refusalOf b) 0) (notBaseline (b .entry)) (refusalOf b)
-    (some-kind (eqb (kindNumber (b .entry)) 1))
-    (some-own openNumber (N.NoSuchDate, refl) (N.OutsideLimits, refl) (N.NotZero, refl) (N.Done, refl) (not (dateExists (dateOf (b .entry)))) (outsideLimits (b .entry) (b .marks) (b .sizes)) (notZero (b .entry) (b .marks) (b .sizes))) in
+    let own = each-own (Some openNumber) (N.Refused W.NoSuchDate, refl) (N.Refused W.OutsideLimits, refl) (N.Refused W.NotZero, refl) b false false in
+    let kind : Each (Some openNumber) (7 when notBaseline (b .entry) ∷ []) = ((N.NotBaseline, refl), tt) in
+    let answer = among (Some openNumber) (refusalsOfOpening b) (N.Done, refl) (each-append (Some openNumber) (refusalsOf b) (7 when notBaseline (b .entry) ∷ []) own kind) in
     (answer .0, openedSubject b, record { answer = answer .1; made = refl; five = five })
 
 some-status : (w : PfsWord) → Some wordOfStatus w

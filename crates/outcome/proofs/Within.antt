@@ -1,27 +1,28 @@
 -- Refusals and ranges of opening, adding and reading, for every record value and every subject.
 -- Assumes nothing.
-use mathlib.Core.Path.{_≡_, refl, sym, _∙_, subst}
-use mathlib.Core.Bool.{Bool, true, false}
-use mathlib.Core.List.{List, []}
+use mathlib.Core.Path.{_≡_, refl, sym, _∙_, ap, subst}
+use mathlib.Core.Bool.{Bool, true, false, not}
+use mathlib.Core.List.{List, [], _∷_, _++_}
 use Prim.Native.Nat.{ℕ, _+_, _-_}
 use native.Mathlib.Omega.{arith}
 use lib.Dec.{leb, eqb}
 use borrow.Author.Tests.{eq-eqb, ne-eqb, eqb-true}
 use Rattle.laws.specs.Choice.{pick}
+use Rattle.laws.specs.Refusals.{_when_, first}
 use Rattle.records.specs.declared.Entry.{Entry}
 use Rattle.records.specs.declared.Entry.the-variants as E
 use Rattle.records.specs.declared.Record.{Record}
-use Rattle.records.proofs.Passed.{Passes, passes, small-baseline}
-use Rattle.codec.specs.Reading.{refusalOfBytes, recordOfBytes}
-use Rattle.codec.proofs.Fine.{found-fine}
+use Rattle.records.specs.Refusals.{refusalsOf}
+use Rattle.records.proofs.Passed.{Passes, passes, after-own, none-after-own, small-baseline}
+use Rattle.codec.specs.Reading.{refusalsOfBytes, refusalOfBytes, recordOfBytes}
+use Rattle.codec.proofs.Fine.{after-reading, found-fine}
 use Rattle.criteria.specs.Words.{Word}
 use Rattle.endpoints.specs.declared.MaybeDay.{MaybeDay}
 use Rattle.endpoints.specs.declared.MaybeDay.the-variants as M
 use Rattle.endpoints.specs.Values.{orDay1, Pfs, noDuration, forDays, event, censored, dayValue}
 use Rattle.endpoints.specs.Pfs.{twoMissed, earlyDeath, pfsOf}
 use Rattle.endpoints.specs.Best.{isResponse, durationOf}
-use Rattle.endpoints.specs.Adding.{afterOwn, notBaseline, refusalOfOpening}
-use Rattle.endpoints.proofs.Calls.{none-of-both}
+use Rattle.endpoints.specs.Adding.{notBaseline, refusalsOfOpening, refusalOfOpening}
 use Rattle.held.specs.declared.Subject.{Subject}
 use Rattle.opening.specs.Opening.{openNumber, subjectOf, openedSubject, Opened}
 use Rattle.held.specs.Range.{inRange}
@@ -31,7 +32,7 @@ use Rattle.opening.proofs.Within.{blank-outside, opening-within}
 use Rattle.placing.specs.declared.AddAnswer.{AddAnswer}
 use Rattle.placing.specs.Lines.{addResponses}
 use Rattle.placing.specs.Refusals.{addNumber}
-use Rattle.placing.specs.Promises.{refusalOnDay, addedOnDay, Answered, refusalHeld, Added, refusalFromBytes, AddedBytes}
+use Rattle.placing.specs.Promises.{refusalsOnDay, addedOnDay, Answered, refusalHeld, Added, refusalFromBytes, AddedBytes}
 use Rattle.placing.proofs.Within.{adding-within}
 use Rattle.opening.specs.declared.OpenAnswer.{OpenAnswer}
 use Rattle.outcome.specs.declared.OutcomeAnswer.{OutcomeAnswer}
@@ -41,7 +42,7 @@ use Rattle.outcome.specs.Laws.{DurationWithin, TellsWithin, CallsInRange
 -- ---- opening
 
 first-within : (e : Entry) (marks : List Bool) (sizes : List ℕ) → Passes (record { entry = e; sizes = sizes; marks = marks }) false false →
-    notBaseline e ≡ 0 → SubjectWithin (subjectOf e marks sizes)
+    first (7 when notBaseline e ∷ []) ≡ 0 → SubjectWithin (subjectOf e marks sizes)
 first-within (E.Baseline b) marks sizes own q =
     let small = small-baseline b marks sizes (own .limits) (own .zeros) in
     opening-within b marks sizes (own .date) (small .0) (small .1)
@@ -50,9 +51,9 @@ first-within (E.Therapy d) marks sizes own q = absurd (let w : ⊥ = omega arith
 first-within (E.Death d) marks sizes own q = absurd (let w : ⊥ = omega arith in w)
 
 opened-within : (r : Record) → refusalOfOpening r ≡ 0 → SubjectWithin (openedSubject r)
-unfolding openedSubject refusalOfOpening
+unfolding openedSubject refusalsOfOpening
 opened-within r e =
-    let parts = none-of-both r (notBaseline (r .entry)) .0 e in
+    let parts = none-after-own r _ .0 e in
     rw (eq-eqb (refusalOfOpening r) 0 e) (first-within (r .entry) (r .marks) (r .sizes) (passes r false false (parts .0)) (parts .1))
 
 pub opened-in-range : {r : Record} {a : OpenAnswer} {s : Subject} → Opened r a s → openNumber a ≡ 0 → inRange s ≡ true
@@ -67,13 +68,13 @@ added-in-range {s} {t} {r} w h = rw (w .left) (go (eqb (refusalHeld s r) 0) refl
     go : (x : Bool) → eqb (refusalHeld s r) 0 ≡ x → inRange (pick x (addedOnDay s r) s) ≡ true
     go false e = h
     go true e =
-        let none : afterOwn r (refusalOnDay s r) ≡ 0 = rw h at (eqb-true (refusalHeld s r) 0 e) in
+        let none : first (refusalsOf r ++ refusalsOnDay s r) ≡ 0 = rw h at (eqb-true (refusalHeld s r) 0 e) in
         let within = subject-within s h in
         in-range (addedOnDay s r)
         (record {
           enrolment = within .enrolment;
           followup =
-              adding-within (s .enrolment) (s .followup) (r .entry) (r .marks) (r .sizes) (within .followup) (none-of-both r (refusalOnDay s r) .0 none .1);
+              adding-within (s .enrolment) (s .followup) (r .entry) (r .marks) (r .sizes) (within .followup) (none-after-own r (refusalsOnDay s r) .0 none .1);
         })
 
 -- ---- reading
@@ -138,15 +139,19 @@ not-added w z = kept w z
 from-bytes : {s t : Subject} {bytes : List ℕ} {a : AddAnswer} → AddedBytes s bytes a t → refusalOfBytes bytes ≡ 0 → Added s (recordOfBytes bytes) a t
 unfolding refusalHeld refusalFromBytes
 from-bytes {s} {t} {bytes} {a} w e =
-    let octets = w .octets in
-    let same : refusalFromBytes s bytes ≡ refusalHeld s (recordOfBytes bytes) = rw (e, found-fine bytes octets e) in
+    let r = recordOfBytes bytes in
+    let behind = refusalsOnDay s r in
+    let read : first (refusalsOfBytes bytes ++ behind) ≡ first behind = after-reading bytes behind ∙ rw e in
+    let own : first (refusalsOf r ++ behind) ≡ first behind = after-own r behind ∙ rw (found-fine bytes (w .octets) e) in
+    let same : refusalFromBytes s bytes ≡ refusalHeld s r = ap (pick (not (inRange s)) 12) (read ∙ sym own) in
     subst (λ (n : ℕ). Answered s (recordOfBytes bytes) n a t) same (w .added)
 
 not-from-bytes : {s t : Subject} {bytes : List ℕ} {a : AddAnswer} → AddedBytes s bytes a t → inRange s ≡ true → (refusalOfBytes bytes ≡ 0 → ⊥) →
     (addNumber a ≡ refusalOfBytes bytes) × (addResponses a ≡ []) × (t ≡ s)
 unfolding refusalFromBytes
 not-from-bytes {s} {t} {bytes} {a} w h z =
-    let told : refusalFromBytes s bytes ≡ refusalOfBytes bytes = rw (h, ne-eqb (refusalOfBytes bytes) 0 z) in
+    let told : refusalFromBytes s bytes ≡ refusalOfBytes bytes =
+    rw h (after-reading bytes (refusalsOnDay s (recordOfBytes bytes)) ∙ rw (ne-eqb (refusalOfBytes bytes) 0 z)) in
     let number = w .added .answer ∙ told in
     let refused : addNumber a ≡ 0 → ⊥ = λ e. z (sym number ∙ e) in
     (number, no-responses (w .added) refused, kept (w .added) refused)

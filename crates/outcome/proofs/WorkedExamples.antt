@@ -4,7 +4,7 @@
 use mathlib.Core.Path.{refl}
 use Rattle.dates.specs.Calendar.{leapYear, daysInMonth, dateExists, daysOfYears, daysOfMonths, dayNumber}
 use Rattle.dates.specs.Answers.{studyDayOf}
-use Rattle.records.specs.Refusals.{wrongSize, largeMeasured, setBeyond, sizedUnmeasured, withoutDisease, outsideLimits, notZero, refusalOfRead}
+use Rattle.records.specs.Refusals.{wrongSize, largeMeasured, setBeyond, sizedUnmeasured, withoutDisease, outsideLimits, notZero, refusalsOfRead}
 use Rattle.criteria.specs.Sums.{measuredSum, baselineSum, allMeasured}
 use Rattle.criteria.specs.Targets.{allGone, grown, shrunk, targetAnswer}
 use Rattle.criteria.specs.Nadir.{afterVisit}
@@ -17,18 +17,18 @@ use Rattle.endpoints.specs.Course.{answerAt}
 use Rattle.endpoints.specs.Pfs.{gapLimit, earlyDeath, pfs}
 use Rattle.endpoints.specs.Best.{best, duration}
 use Rattle.endpoints.specs.Settled.{settledFrom, pfsSettledBy, bestSettledBy, durationSettledBy, pfsSettled, bestSettled, durationSettled}
-use Rattle.endpoints.specs.Adding.{refusalBehind, refusalOfAdding}
+use Rattle.endpoints.specs.Adding.{refusalsBehind, refusalsOfAdding}
 use Rattle.held.specs.Range.{enrolmentInRange, followUpInRange, inRange}
 use Rattle.held.specs.Visits.{eventAfter, countedAfter}
 use Rattle.opening.specs.Opening.{blank}
 use Rattle.placing.specs.Added.{answerOn, visitAdded}
-use Rattle.placing.specs.Refusals.{refusalOn}
+use Rattle.placing.specs.Refusals.{refusalsOn}
 use Rattle.placing.specs.Promises.{refusalHeld}
 use Rattle.outcome.specs.Promises.{outcomeOf, readingOf}
 use Rattle.outcome.specs.Examples.{FirstRefusals, ReadAtTheEdges, RepliesAtTheEdges, ValuesOfCases}
 
 pub first-refusals : FirstRefusals
-unfolding leapYear daysInMonth dateExists daysOfYears daysOfMonths dayNumber studyDayOf wrongSize largeMeasured setBeyond sizedUnmeasured withoutDisease outsideLimits notZero refusalOfRead measuredSum allMeasured allGone grown shrunk targetAnswer afterVisit overallBy overallAnswer measuredBeyond fitsBy enrolmentInRange followUpInRange inRange eventAfter countedAfter blank answerOn visitAdded refusalOn refusalHeld readingOf
+unfolding leapYear daysInMonth dateExists daysOfYears daysOfMonths dayNumber studyDayOf wrongSize largeMeasured setBeyond sizedUnmeasured withoutDisease outsideLimits notZero refusalsOfRead measuredSum allMeasured allGone grown shrunk targetAnswer afterVisit overallBy overallAnswer measuredBeyond fitsBy enrolmentInRange followUpInRange inRange eventAfter countedAfter blank answerOn visitAdded refusalsOn refusalHeld readingOf
 first-refusals =
     record {
       outOfRange = refl;
@@ -63,7 +63,7 @@ read-at-the-edges =
     }
 
 pub replies-at-the-edges : RepliesAtTheEdges
-unfolding leapYear daysInMonth dateExists daysOfYears daysOfMonths dayNumber studyDayOf wrongSize largeMeasured setBeyond sizedUnmeasured withoutDisease outsideLimits notZero refusalOfRead measuredSum baselineSum allMeasured allGone grown shrunk targetAnswer afterVisit overallBy overallAnswer measuredBeyond fitsBy fits answerAt gapLimit earlyDeath pfs best duration settledFrom pfsSettledBy bestSettledBy durationSettledBy pfsSettled bestSettled durationSettled refusalBehind refusalOfAdding changeBetween changeOf lineOf
+unfolding leapYear daysInMonth dateExists daysOfYears daysOfMonths dayNumber studyDayOf wrongSize largeMeasured setBeyond sizedUnmeasured withoutDisease outsideLimits notZero refusalsOfRead measuredSum baselineSum allMeasured allGone grown shrunk targetAnswer afterVisit overallBy overallAnswer measuredBeyond fitsBy fits answerAt gapLimit earlyDeath pfs best duration settledFrom pfsSettledBy bestSettledBy durationSettledBy pfsSettled bestSettled durationSettled refusalsBehind refusalsOfAdding changeBetween changeOf lineOf
 replies-at-the-edges = record { replied = refl }
 
 pub values-of-cases : ValuesOfCases

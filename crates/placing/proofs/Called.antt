@@ -2,13 +2,15 @@
 -- Assumes nothing.
 use mathlib.Core.Path.{_≡_, refl, sym, _∙_, ap}
 use mathlib.Core.Bool.{Bool, true, false, not}
-use mathlib.Core.List.{List}
+use mathlib.Core.List.{List, [], _∷_, _++_}
 use Prim.Native.Nat.{ℕ, _+_, _-_}
 use native.Mathlib.Omega.{arith}
 use lib.Dec.{leb, eqb}
 use borrow.Author.Tests.{eqb-true, not-true, not-false}
 use Rattle.laws.specs.Choice.{both, pick}
+use Rattle.laws.specs.Refusals.{_when_, first}
 use Rattle.laws.proofs.Tests.{both-true}
+use Rattle.laws.proofs.Refusals.{none-of-both}
 use Rattle.packing.specs.Layout.{AreBytes}
 use Rattle.dates.specs.declared.Date.{Date}
 use Rattle.dates.specs.declared.StudyDay.{StudyDay}
@@ -20,9 +22,11 @@ use Rattle.records.specs.declared.Entry.the-variants as E
 use Rattle.records.specs.declared.Record.{Record}
 use Rattle.records.specs.declared.CheckAnswer.{CheckAnswer}
 use Rattle.records.specs.Form.{dateOf}
-use Rattle.records.specs.Refusals.{checkNumber, refusalOfFields, ChecksVisit, refusalOfRead, refusalOf}
+use Rattle.records.specs.Refusals.{checkNumber, refusalsOfFields, ChecksVisit, refusalsOfRead, refusalOf}
+use Rattle.records.proofs.Passed.{after-own}
 use Rattle.codec.specs.declared.VisitFields.{VisitFields}
-use Rattle.codec.specs.Reading.{rawVisit, refusalOfRaw, refusalOfBytes, recordOfBytes, visitFieldsOf, ReadsVisit}
+use Rattle.codec.specs.Reading.{rawVisit, refusalsOfRaw, refusalsOfBytes, refusalOfBytes, recordOfBytes, visitFieldsOf, ReadsVisit}
+use Rattle.codec.proofs.Fine.{bytes-numbered, after-reading}
 use Rattle.codec.proofs.VisitsFound.{found-date, is-visit}
 use Rattle.held.specs.declared.Subject.{Subject}
 use Rattle.held.specs.Range.{enrolmentInRange, followUpInRange, inRange}
@@ -32,9 +36,9 @@ use Rattle.placing.specs.declared.Dated.{Dated}
 use Rattle.placing.specs.declared.Step.{Step}
 use Rattle.placing.specs.Added.{heldDay, entryAdded}
 use Rattle.placing.specs.Lines.{addResponses, linesOn}
-use Rattle.placing.specs.Refusals.{addNumber, refusalOn, firstRefusal}
-use Rattle.placing.specs.Promises.{dayOn, refusalOnDay, Answered, refusalHeld, Added, refusalFromBytes, AddedBytes}
-use Rattle.placing.specs.Stepping.{DatedAs, DatedFrom, Steps}
+use Rattle.placing.specs.Refusals.{addNumber, refusalsOn}
+use Rattle.placing.specs.Promises.{dayOn, refusalsOnDay, Answered, refusalHeld, Added, refusalFromBytes, AddedBytes}
+use Rattle.placing.specs.Stepping.{DatedAs, DatedFrom, firstRefusal, Steps}
 
 -- ---- a date that was counted
 
@@ -62,7 +66,7 @@ counted-refusal d randomisation e = rw e (go (dateExists d) (leb (dayNumber rand
 
 module _ (counted : StudyDayAnswer) (v : VisitFields) (x : Bool) (xq : x ≡ not (eqb (studyDayValues counted .refusal) 3)) where
   abbrev own : ℕ
-  own = refusalOfFields (eqb (studyDayValues counted .refusal) 3) (E.Visit (v .entry)) (v .measured) (v .sizes) (v .badstatus) (v .spare)
+  own = first (refusalsOfFields (eqb (studyDayValues counted .refusal) 3) (E.Visit (v .entry)) (v .measured) (v .sizes) (v .badstatus) (v .spare))
 
   pub own-no-date : not x ≡ true → 3 ≡ own
   own-no-date h = let q = not-false (eqb (studyDayValues counted .refusal) 3) (sym xq ∙ not-true x h) in rw q
@@ -72,8 +76,9 @@ module _ (counted : StudyDayAnswer) (v : VisitFields) (x : Bool) (xq : x ≡ not
   own-by-fields a c h w q = let n = not-true (eqb (studyDayValues counted .refusal) 3) (sym xq ∙ not-false x h) in q ∙ w (v .entry) ∙ rw n
 
 -- 3, then 4 and 5
-by-date : (v : VisitFields) → refusalOfRaw (rawVisit v) ≡ refusalOfFields (not (dateExists (v .entry .date))) (E.Visit (v .entry)) (v .measured) (v .sizes) (v .badstatus) (v .spare)
-unfolding refusalOfRead
+by-date : (v : VisitFields) →
+    refusalsOfRaw (rawVisit v) ≡ refusalsOfFields (not (dateExists (v .entry .date))) (E.Visit (v .entry)) (v .measured) (v .sizes) (v .badstatus) (v .spare)
+unfolding refusalsOfRead
 by-date v = refl
 
 -- ---- a record on its study day
@@ -90,13 +95,13 @@ module _ (randomisation : Date) (bytes : List ℕ) (v : VisitFields) (counted : 
   on-the-day e = held ∙ ap (heldDay randomisation) (date-read ∙ sym (found-date bytes (w .octets) e))
 
   pub visit-dated : (own : AddAnswer) → v .isvisit ≡ true →
-      addNumber own ≡ refusalOfFields (eqb (studyDayValues counted .refusal) 3) (E.Visit (v .entry)) (v .measured) (v .sizes) (v .badstatus) (v .spare) →
+      addNumber own ≡ first (refusalsOfFields (eqb (studyDayValues counted .refusal) 3) (E.Visit (v .entry)) (v .measured) (v .sizes) (v .badstatus) (v .spare)) →
       (x .day ≡ day) × (x .own ≡ own) × (x .found ≡ rawVisit v .read) → DatedFrom randomisation bytes x
   visit-dated own h oq q =
       let there = is-visit bytes (ap (λ f. f .isvisit) (sym (w .fields)) ∙ h) in
-      let refusal : refusalOfBytes bytes ≡ refusalOfRaw (rawVisit v) = there .refusal ∙ ap (λ f. refusalOfRaw (rawVisit f)) (sym (w .fields)) in
+      let refusal : refusalOfBytes bytes ≡ first (refusalsOfRaw (rawVisit v)) = there .refusal ∙ ap (λ f. first (refusalsOfRaw (rawVisit f))) (sym (w .fields)) in
       record {
-        own = λ e. ap addNumber (q .1) ∙ oq ∙ rw (cq, counted-refusal (v .entry .date) randomisation e) (sym (by-date v)) ∙ sym refusal;
+        own = λ e. ap addNumber (q .1) ∙ oq ∙ rw (cq, counted-refusal (v .entry .date) randomisation e) (ap first (sym (by-date v))) ∙ sym refusal;
         day = λ e. q .0 ∙ on-the-day e;
         found = λ e. q .2 ∙ ap (λ f. rawVisit f .read) (w .fields) ∙ sym (there .found e);
         octets = w .octets;
@@ -118,13 +123,18 @@ value-dated randomisation date r counted day own c e cq dq rq oq =
 
 -- ---- the calls
 
+-- 12 as the first of a list
+twelve-first : (inside : Bool) (n : ℕ) → pick inside n 12 ≡ pick (not inside) 12 n
+twelve-first true n = refl
+twelve-first false n = refl
+
 -- a step on the record's own day, with its own refusal, answers for the record
 module _ (s : Subject) (r : Record) (d : Dated) (x : Step) (y : AddResult) (inside : Bool) (iq : inside ≡ both (enrolmentInRange (s .enrolment)) (followUpInRange (s .followup)))
     (w : Steps inside (s .enrolment) (s .followup) (d .day) (addNumber (d .own)) (d .found .entry) (d .found .marks) (d .found .sizes) x)
     (q : (y .answer ≡ x .answer) × (y .subject ≡ record { enrolment = s .enrolment; followup = x .followup })) where
   -- the step's number
   abbrev told : ℕ
-  told = firstRefusal inside (addNumber (d .own)) (refusalOn (s .enrolment) (s .followup) (d .day) (d .found .entry) (d .found .marks))
+  told = firstRefusal inside (addNumber (d .own)) (first (refusalsOn (s .enrolment) (s .followup) (d .day) (d .found .entry) (d .found .marks)))
 
   answered : (n : ℕ) → told ≡ n → (n ≡ 0 → (d .day ≡ dayOn s r) × (d .found ≡ r)) → Answered s r n (y .answer) (y .subject)
   answered n e same = go (eqb n 0) refl
@@ -160,7 +170,8 @@ module _ (s : Subject) (r : Record) (d : Dated) (x : Step) (y : AddResult) (insi
   unfolding refusalHeld
   value-added v =
       answered (refusalHeld s r)
-      (λ i. firstRefusal (inside-is i) (v .own i) (refusalOn (s .enrolment) (s .followup) (v .day i) (v .found i .entry) (v .found i .marks)))
+      ((λ i. firstRefusal (inside-is i) (v .own i) (first (refusalsOn (s .enrolment) (s .followup) (v .day i) (v .found i .entry) (v .found i .marks))))
+      ∙ twelve-first (inRange s) _ ∙ ap (pick (not (inRange s)) 12) (sym (after-own r (refusalsOnDay s r))))
       (λ z. (v .day, v .found))
 
 -- from bytes
@@ -175,38 +186,40 @@ module _ (s : Subject) (bytes : List ℕ) (d : Dated) (x : Step) (y : AddResult)
   same : refusalOfBytes bytes ≡ 0 → (d .day ≡ dayOn s r) × (d .found ≡ r)
   same e = (v .day e, v .found e)
 
-  own-then : (own : ℕ) → own ≡ refusalOfBytes bytes →
-      pick (eqb own 0) (refusalOn (s .enrolment) (s .followup) (d .day) (d .found .entry) (d .found .marks)) own
-      ≡ pick (eqb (refusalOfBytes bytes) 0) (refusalOnDay s r) (refusalOfBytes bytes)
+  -- 8 to 11 of the record found, on its day
+  abbrev behind : ℕ
+  behind = first (refusalsOn (s .enrolment) (s .followup) (d .day) (d .found .entry) (d .found .marks))
+
+  own-then : (own : ℕ) → own ≡ refusalOfBytes bytes → pick (eqb own 0) behind own ≡ pick (eqb (refusalOfBytes bytes) 0) (first (refusalsOnDay s r)) (refusalOfBytes bytes)
   own-then own e = rw e (go (eqb (refusalOfBytes bytes) 0) refl)
     where
-      go : (b : Bool) → eqb (refusalOfBytes bytes) 0 ≡ b →
-          pick b (refusalOn (s .enrolment) (s .followup) (d .day) (d .found .entry) (d .found .marks)) (refusalOfBytes bytes)
-          ≡ pick b (refusalOnDay s r) (refusalOfBytes bytes)
-      go true z = let k = same (eqb-true (refusalOfBytes bytes) 0 z) in λ i. refusalOn (s .enrolment) (s .followup) (k .0 i) (k .1 i .entry) (k .1 i .marks)
+      go : (b : Bool) → eqb (refusalOfBytes bytes) 0 ≡ b → pick b behind (refusalOfBytes bytes) ≡ pick b (first (refusalsOnDay s r)) (refusalOfBytes bytes)
+      go true z = let k = same (eqb-true (refusalOfBytes bytes) 0 z) in λ i. first (refusalsOn (s .enrolment) (s .followup) (k .0 i) (k .1 i .entry) (k .1 i .marks))
       go false z = refl
 
-  told-from : (b : Bool) → inside ≡ b → firstRefusal b (addNumber (d .own)) (refusalOn (s .enrolment) (s .followup) (d .day) (d .found .entry) (d .found .marks))
-      ≡ firstRefusal b (refusalOfBytes bytes) (refusalOnDay s r)
+  told-from : (b : Bool) → inside ≡ b → firstRefusal b (addNumber (d .own)) behind ≡ firstRefusal b (refusalOfBytes bytes) (first (refusalsOnDay s r))
   unfolding enrolmentInRange
   told-from false h = refl
   told-from true h =
       let range = both-true (enrolmentInRange (s .enrolment)) (followUpInRange (s .followup)) (sym iq ∙ h) in
       own-then (addNumber (d .own)) (v .own (both-true (dateExists (s .enrolment .randomisation)) _ (range .0) .0))
 
-  number : firstRefusal inside (addNumber (d .own)) (refusalOn (s .enrolment) (s .followup) (d .day) (d .found .entry) (d .found .marks)) ≡ refusalFromBytes s bytes
+  number : firstRefusal inside (addNumber (d .own)) behind ≡ refusalFromBytes s bytes
   unfolding refusalFromBytes inRange
-  number = told-from inside refl ∙ ap (λ (b : Bool). firstRefusal b (refusalOfBytes bytes) (refusalOnDay s r)) iq
+  number =
+      told-from inside refl
+      ∙ ap (λ (b : Bool). firstRefusal b (refusalOfBytes bytes) (first (refusalsOnDay s r))) iq
+      ∙ twelve-first (inRange s) _
+      ∙ ap (pick (not (inRange s)) 12) (sym (after-reading bytes (refusalsOnDay s r)))
 
   -- no refusal from bytes, so none of the bytes
   none-of-bytes : refusalFromBytes s bytes ≡ 0 → refusalOfBytes bytes ≡ 0
   unfolding refusalFromBytes
-  none-of-bytes z = go (inRange s) (eqb (refusalOfBytes bytes) 0) refl z
+  none-of-bytes z = go (inRange s) z
     where
-      go : (b c : Bool) → eqb (refusalOfBytes bytes) 0 ≡ c → pick b (pick c (refusalOnDay s r) (refusalOfBytes bytes)) 12 ≡ 0 → refusalOfBytes bytes ≡ 0
-      go true true h e = eqb-true (refusalOfBytes bytes) 0 h
-      go true false h e = e
-      go false c h e = absurd (let w : ⊥ = omega arith in w)
+      go : (b : Bool) → first (12 when not b ∷ refusalsOfBytes bytes ++ refusalsOnDay s r) ≡ 0 → refusalOfBytes bytes ≡ 0
+      go true e = none-of-both (refusalsOfBytes bytes) (refusalsOnDay s r) (bytes-numbered bytes) .0 e .0
+      go false e = absurd (let w : ⊥ = omega arith in w)
 
   pub bytes-added : AddedBytes s bytes (y .answer) (y .subject)
   bytes-added = record { added = answered s r d x y inside iq w q (refusalFromBytes s bytes) number (λ z. same (none-of-bytes z)); octets = v .octets }

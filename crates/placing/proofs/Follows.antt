@@ -18,7 +18,7 @@ use Rattle.endpoints.specs.StudyRecords.{Baseline, disease, studyDay, entryOnSt
 use Rattle.endpoints.specs.Lawful.{Past, deathDay, fits, lawfulBehind}
 use Rattle.endpoints.specs.Course.{Course, visitsOf, Judged, answerAt, judge, course, therapyIn, visitsIn, progression, countingClosed, counting}
 use Rattle.endpoints.specs.Lines.{lineOf, linesOf}
-use Rattle.endpoints.specs.Adding.{refusalBehind}
+use Rattle.endpoints.specs.Adding.{refusalsBehind}
 use Rattle.endpoints.proofs.Behind.{absent, next, latest-is-last}
 use Rattle.held.specs.declared.Subject.{Subject}
 use Rattle.held.specs.Days.{at, maybe}
@@ -28,19 +28,19 @@ use Rattle.held.proofs.Ordered.{Falling, counting-falls}
 use Rattle.held.proofs.Follows.{day-of-maybe, event-follows, counted-follows}
 use Rattle.placing.specs.Added.{heldDay, answerOn, visitAdded, later, therapyAdded, deathAdded, entryAdded}
 use Rattle.placing.specs.Lines.{linesOn}
-use Rattle.placing.specs.Refusals.{refusalOn}
+use Rattle.placing.specs.Refusals.{refusalsOn}
 
 module _ (randomisation : Date) (b : Baseline) (p : Past) where
   abbrev pub held : Subject
   held = summary randomisation b p
 
-  pub refusal-follows : (e : Entry) (marks : List Bool) (sizes : List ℕ) →
-      refusalOn (held .enrolment) (held .followup) (heldDay randomisation (dateOf e)) e marks ≡ refusalBehind b p (entryOnStudyDay randomisation e marks sizes)
-  unfolding refusalOn refusalBehind summary fits
-  refusal-follows (E.Baseline x) marks sizes = refl
-  refusal-follows (E.Visit v) marks sizes = rw (day-of-maybe (deathDay p))
-  refusal-follows (E.Therapy d) marks sizes = rw (day-of-maybe (deathDay p))
-  refusal-follows (E.Death d) marks sizes = rw (day-of-maybe (deathDay p))
+  pub refusals-follow : (e : Entry) (marks : List Bool) (sizes : List ℕ) →
+      refusalsOn (held .enrolment) (held .followup) (heldDay randomisation (dateOf e)) e marks ≡ refusalsBehind b p (entryOnStudyDay randomisation e marks sizes)
+  unfolding refusalsOn refusalsBehind summary fits
+  refusals-follow (E.Baseline x) marks sizes = rw (day-of-maybe (deathDay p))
+  refusals-follow (E.Visit v) marks sizes = rw (day-of-maybe (deathDay p))
+  refusals-follow (E.Therapy d) marks sizes = rw (day-of-maybe (deathDay p))
+  refusals-follow (E.Death d) marks sizes = rw (day-of-maybe (deathDay p))
 
   pub lines-follow : (e : Entry) (marks : List Bool) (sizes : List ℕ) →
       linesOn (held .enrolment) (held .followup) (heldDay randomisation (dateOf e)) e marks sizes ≡ linesOf b p (entryOnStudyDay randomisation e marks sizes)

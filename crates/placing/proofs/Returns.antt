@@ -8,6 +8,7 @@ use native.Mathlib.Omega.{arith}
 use lib.Dec.{leb, ltb, eqb}
 use borrow.Author.Tests.{ne-eqb, eqb-false, lt-leb, not-true, not-false}
 use Rattle.laws.specs.Choice.{both, pick}
+use Rattle.laws.specs.Refusals.{first}
 use Rattle.dates.specs.declared.Date.{Date}
 use Rattle.dates.specs.declared.StudyDay.{StudyDay}
 use Rattle.records.specs.declared.Status.{Status}
@@ -38,8 +39,8 @@ use Rattle.placing.specs.declared.Step.{Step}
 use Rattle.placing.specs.declared.VisitResponse.{VisitResponse}
 use Rattle.placing.specs.Added.{answerOn, judgedAdded, visitAdded, therapyAdded, deathAdded}
 use Rattle.placing.specs.Lines.{responseValues, addResponses}
-use Rattle.placing.specs.Refusals.{addNumber, refusalBy, refusalOn, firstRefusal}
-use Rattle.placing.specs.Stepping.{StepsBy, Steps, StepsLater}
+use Rattle.placing.specs.Refusals.{addNumber, refusalsBy, refusalsOn}
+use Rattle.placing.specs.Stepping.{StepsBy, firstRefusal, Steps, StepsLater}
 
 -- ---- whether a visit fits
 
@@ -109,8 +110,9 @@ module _ (inside : Bool) (own behind : AddAnswer) where
 
 pub refusal-as-tested : (e : Enrolment) (f : FollowUp) (day : StudyDay) (v : VisitEntry) (marks : List Bool) (fit : Bool) (a : AddAnswer) →
     fit ≡ fitsBy (e .baseline .count) (e .nontarget) (v .status) marks →
-    addNumber a ≡ refusalBy (isRecorded (dayValue (f .death))) (leb (day .0) (f .latest .0)) (not fit) → addNumber a ≡ refusalOn e f day (E.Visit v) marks
-unfolding refusalOn
+    addNumber a ≡ first (refusalsBy f (leb (day .0) (f .latest .0)) (not fit)) →
+    addNumber a ≡ first (refusalsOn e f day (E.Visit v) marks)
+unfolding refusalsOn
 refusal-as-tested e f day v marks fit a fq aq = aq ∙ rw fq
 
 -- ---- a step
@@ -121,14 +123,12 @@ no-responses A.Done n q = refl
 no-responses (A.Judged v) n q = absurd (let w : ⊥ = omega arith in w)
 no-responses A.NotElevenBytes n q = refl
 no-responses A.NoSuchKind n q = refl
-no-responses A.NoSuchDate n q = refl
-no-responses A.OutsideLimits n q = refl
-no-responses A.NotZero n q = refl
 no-responses A.SecondBaseline n q = refl
 no-responses A.AfterDeath n q = refl
 no-responses A.TooEarly n q = refl
 no-responses A.Misfit n q = refl
 no-responses A.OutOfRange n q = refl
+no-responses (A.Refused own) n q = refl
 
 pub visit-placed : (e : Enrolment) (f next : FollowUp) (day : StudyDay) (v : VisitEntry) (measured : List Bool) (sizes : List ℕ) (a : VisitAnswer) (r : VisitResponse) →
     JudgesVisit (e .baseline) (f .earlier) (visitOf v measured sizes) a →
@@ -152,9 +152,9 @@ refused-by a n m p k q =
     record { answer = ap addNumber (q .0) ∙ p; responses = ap addResponses (q .0) ∙ no-responses a n (p ∙ k) ∙ rw met; left = q .1 ∙ rw met }
 
 module _ (inside : Bool) (e : Enrolment) (f : FollowUp) (d : Dated) (v : VisitEntry) (behind refusal : AddAnswer) (x : Step) (n : ℕ)
-    (bq : addNumber behind ≡ refusalOn e f (d .day) (E.Visit v) (d .found .marks))
+    (bq : addNumber behind ≡ first (refusalsOn e f (d .day) (E.Visit v) (d .found .marks)))
     (rq : addNumber refusal ≡ firstRefusal inside (addNumber (d .own)) (addNumber behind)) (nq : n ≡ addNumber refusal) where
-  number : addNumber refusal ≡ firstRefusal inside (addNumber (d .own)) (refusalOn e f (d .day) (E.Visit v) (d .found .marks))
+  number : addNumber refusal ≡ firstRefusal inside (addNumber (d .own)) (first (refusalsOn e f (d .day) (E.Visit v) (d .found .marks)))
   number = rq ∙ ap (firstRefusal inside (addNumber (d .own))) bq
 
   pub visit-refused : (n ≡ 0 → ⊥) → (x .answer ≡ refusal) × (x .followup ≡ f) →
@@ -167,9 +167,9 @@ module _ (inside : Bool) (e : Enrolment) (f : FollowUp) (d : Dated) (v : VisitEn
 
 -- a therapy or a death
 module _ (inside : Bool) (f : FollowUp) (d : Dated) (next : FollowUp) (behind refusal : AddAnswer) (n : ℕ)
-    (bq : addNumber behind ≡ refusalBy (isRecorded (dayValue (f .death))) (ltb (d .day .0) (f .latest .0)) false)
+    (bq : addNumber behind ≡ first (refusalsBy f (ltb (d .day .0) (f .latest .0)) false))
     (rq : addNumber refusal ≡ firstRefusal inside (addNumber (d .own)) (addNumber behind)) (nq : n ≡ addNumber refusal) where
-  later-number : addNumber refusal ≡ firstRefusal inside (addNumber (d .own)) (refusalBy (isRecorded (dayValue (f .death))) (ltb (d .day .0) (f .latest .0)) false)
+  later-number : addNumber refusal ≡ firstRefusal inside (addNumber (d .own)) (first (refusalsBy f (ltb (d .day .0) (f .latest .0)) false))
   later-number = rq ∙ ap (firstRefusal inside (addNumber (d .own))) bq
 
   pub later-refused : (x : Step) → (n ≡ 0 → ⊥) → (x .answer ≡ refusal) × (x .followup ≡ f) → StepsLater inside f d next x
@@ -188,7 +188,7 @@ module _ (inside : Bool) (e : Enrolment) (f : FollowUp) (d : Dated) (r : Entry) 
 
   pub second-baseline : (b : BaselineEntry) (refusal : AddAnswer) → r ≡ E.Baseline b → addNumber refusal ≡ firstRefusal inside (addNumber (d .own)) 8 →
       (x .answer ≡ refusal) × (x .followup ≡ f) → Stepped
-  unfolding refusalOn
+  unfolding refusalsOn
   second-baseline b refusal k rq q = rw k (refused-by refusal (firstRefusal inside (addNumber (d .own)) 8 - 1) _ rq more q)
     where
       go : (inside : Bool) (n : ℕ) → firstRefusal inside n 8 ≡ suc (firstRefusal inside n 8 - 1)
@@ -207,16 +207,16 @@ module _ (inside : Bool) (e : Enrolment) (f : FollowUp) (d : Dated) (r : Entry) 
 
   module _ (date : Date) (next : FollowUp) (w : StepsLater inside f d next x) where
     abbrev refusal : ℕ
-    refusal = firstRefusal inside (addNumber (d .own)) (refusalBy (isRecorded (dayValue (f .death))) (ltb (d .day .0) (f .latest .0)) false)
+    refusal = firstRefusal inside (addNumber (d .own)) (first (refusalsBy f (ltb (d .day .0) (f .latest .0)) false))
 
     later-lines : (z : Bool) → _≡_ {A = List VisitLine} [] (pick z [] [])
     later-lines true = refl
     later-lines false = refl
 
     pub of-therapy : r ≡ E.Therapy date → next ≡ therapyAdded f (d .day) → Stepped
-    unfolding refusalOn
+    unfolding refusalsOn
     of-therapy k q = rw k (record { answer = w .answer; responses = w .responses ∙ later-lines (eqb refusal 0); left = w .left ∙ rw (q, w .answer) })
 
     pub of-death : r ≡ E.Death date → next ≡ deathAdded f (d .day) → Stepped
-    unfolding refusalOn
+    unfolding refusalsOn
     of-death k q = rw k (record { answer = w .answer; responses = w .responses ∙ later-lines (eqb refusal 0); left = w .left ∙ rw (q, w .answer) })

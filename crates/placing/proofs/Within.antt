@@ -5,9 +5,11 @@ use mathlib.Core.Bool.{Bool, true, false}
 use mathlib.Core.List.{List}
 use Prim.Native.Nat.{ℕ, _+_, _-_, _≤_, min}
 use native.Mathlib.Omega.{arith}
-use lib.Dec.{leb, ltb, eqb}
+use lib.Dec.{leb, ltb}
 use borrow.Author.Tests.{leb-false, ltb-false}
 use Rattle.laws.specs.Choice.{both, pick}
+use Rattle.laws.specs.Refusals.{first, Each}
+use Rattle.laws.proofs.Refusals.{none-meets}
 use Rattle.laws.proofs.Tests.{both-true}
 use Rattle.dates.specs.declared.Date.{Date}
 use Rattle.dates.specs.declared.StudyDay.{StudyDay}
@@ -16,7 +18,7 @@ use Rattle.dates.specs.Answers.{counted, refused, studyDayOf}
 use Rattle.dates.proofs.Calendar.{calendar-laws}
 use Rattle.records.specs.declared.Entry.{Entry}
 use Rattle.records.specs.declared.Entry.the-variants as E
-use Rattle.records.specs.Form.{dateOf, kindNumber}
+use Rattle.records.specs.Form.{dateOf}
 use Rattle.criteria.specs.Sums.{measuredSum, allMeasured}
 use Rattle.criteria.specs.Nadir.{afterVisit}
 use Rattle.criteria.specs.Inputs.{Visit, visitOf}
@@ -24,7 +26,6 @@ use Rattle.criteria.specs.declared.BaselineDisease.{BaselineDisease}
 use Rattle.criteria.specs.declared.Earlier.{Earlier}
 use Rattle.endpoints.specs.declared.MaybeDay.{MaybeDay}
 use Rattle.endpoints.specs.declared.MaybeDay.the-variants as M
-use Rattle.endpoints.specs.Values.{isRecorded, dayValue}
 use Rattle.endpoints.specs.StudyRecords.{studyDay}
 use Rattle.endpoints.specs.Course.{Judged}
 use Rattle.held.specs.declared.Enrolment.{Enrolment}
@@ -33,7 +34,7 @@ use Rattle.held.specs.declared.CountingVisits.{CountingVisits}
 use Rattle.held.specs.Laws.{Within, AbsentOrWithin, CountedWithin, FollowUpWithin}
 use Rattle.held.proofs.Within.{event-within, counted-within}
 use Rattle.placing.specs.Added.{heldDay, answerOn, closedOn, visitAdded, later, therapyAdded, deathAdded, entryAdded}
-use Rattle.placing.specs.Refusals.{earlyOn, misfitOn, refusalOn}
+use Rattle.placing.specs.Refusals.{earlyOn, refusalsOn}
 
 pub study-day-most : (randomisation d : Date) → studyDay randomisation d ≤ lastDayNumber
 unfolding studyDayOf
@@ -49,16 +50,17 @@ study-day-most randomisation d = go (both (dateExists d) (dateExists randomisati
     go true e false = omega arith
     go false e y = omega arith
 
--- no refusal, so not too early
-in-time : (baseline dead early misfit : Bool) → _≡_ {A = ℕ} (pick baseline 8 (pick dead 9 (pick early 10 (pick misfit 11 0)))) 0 → early ≡ false
-in-time true dead early misfit e = absurd (let w : ⊥ = omega arith in w)
-in-time false true early misfit e = absurd (let w : ⊥ = omega arith in w)
-in-time false false true misfit e = absurd (let w : ⊥ = omega arith in w)
-in-time false false false misfit e = refl
+-- what holds of 8 to 11 holds of the number of each refusal
+pub each-on : (P : ℕ → Type 0) → P 8 → P 9 → P 10 → P 11 → (e : Enrolment) (f : FollowUp) (day : StudyDay) (r : Entry) (marks : List Bool) →
+    Each P (refusalsOn e f day r marks)
+unfolding refusalsOn
+each-on P eight nine ten eleven e f day r marks = (eight, (nine, (ten, (eleven, tt))))
 
-not-early : (e : Enrolment) (f : FollowUp) (day : StudyDay) (r : Entry) (marks : List Bool) → refusalOn e f day r marks ≡ 0 → earlyOn f day r ≡ false
-unfolding refusalOn
-not-early e f day r marks q = in-time (eqb (kindNumber r) 1) (isRecorded (dayValue (f .death))) (earlyOn f day r) (misfitOn e r marks) q
+-- no refusal, so not too early
+not-early : (e : Enrolment) (f : FollowUp) (day : StudyDay) (r : Entry) (marks : List Bool) → first (refusalsOn e f day r marks) ≡ 0 → earlyOn f day r ≡ false
+unfolding refusalsOn
+not-early e f day r marks q =
+    none-meets (refusalsOn e f day r marks) (each-on (λ (n : ℕ). 1 ≤ n) (omega arith) (omega arith) (omega arith) (omega arith) e f day r marks) .0 q .1 .1 .0
 
 nadir-least : (b : BaselineDisease) (earlier : Earlier) (v : Visit) → afterVisit b earlier v .nadir ≤ earlier .nadir
 unfolding afterVisit
@@ -81,7 +83,7 @@ on-or-after randomisation f d w h =
     (omega arith, study-day-most randomisation d)
 
 pub adding-within : (e : Enrolment) (f : FollowUp) (r : Entry) (marks : List Bool) (sizes : List ℕ) → FollowUpWithin f →
-    refusalOn e f (heldDay (e .randomisation) (dateOf r)) r marks ≡ 0 → FollowUpWithin (entryAdded e f (heldDay (e .randomisation) (dateOf r)) r marks sizes)
+    first (refusalsOn e f (heldDay (e .randomisation) (dateOf r)) r marks) ≡ 0 → FollowUpWithin (entryAdded e f (heldDay (e .randomisation) (dateOf r)) r marks sizes)
 unfolding visitAdded therapyAdded deathAdded
 adding-within e f (E.Baseline b) marks sizes w r = w
 adding-within e f (E.Visit v) marks sizes w r =

@@ -4,9 +4,9 @@
 use mathlib.Core.Path.{refl}
 use Rattle.dates.specs.Calendar.{leapYear, daysInMonth, dateExists, daysOfYears, daysOfMonths, dayNumber}
 use Rattle.dates.specs.Answers.{studyDayOf}
-use Rattle.records.specs.Refusals.{wrongSize, largeMeasured, setBeyond, sizedUnmeasured, withoutDisease, outsideLimits, notZero, refusalOfRead}
+use Rattle.records.specs.Refusals.{wrongSize, largeMeasured, setBeyond, sizedUnmeasured, withoutDisease, outsideLimits, notZero, refusalsOfRead}
 use Rattle.codec.specs.Bytes.{bytesNumber}
-use Rattle.codec.specs.Reading.{statusFrom, baselineIn, visitIn, spareIn, rawIn, refusalOfNumber, refusalOfBytes, recordOfBytes}
+use Rattle.codec.specs.Reading.{statusFrom, baselineIn, visitIn, spareIn, rawIn, refusalsOfNumber, refusalsOfBytes, recordOfBytes}
 use Rattle.criteria.specs.Sums.{measuredSum, allMeasured}
 use Rattle.criteria.specs.Targets.{allGone, grown, shrunk, targetAnswer}
 use Rattle.criteria.specs.Nadir.{afterVisit}
@@ -17,7 +17,7 @@ use Rattle.endpoints.specs.Lawful.{measuredBeyond, fitsBy}
 use Rattle.held.specs.Range.{enrolmentInRange, followUpInRange, inRange}
 use Rattle.held.specs.Visits.{eventAfter, countedAfter}
 use Rattle.placing.specs.Added.{answerOn, visitAdded, therapyAdded, deathAdded}
-use Rattle.placing.specs.Refusals.{refusalOn}
+use Rattle.placing.specs.Refusals.{refusalsOn}
 use Rattle.placing.specs.Promises.{refusalHeld, refusalFromBytes}
 use Rattle.placing.specs.Examples.{NumbersOfCases, FirstRefusals, AddedAtTheEdges, LinesAtTheEdges, OrderByValue, OrderFromBytes, BesideNumbers}
 
@@ -25,7 +25,7 @@ pub numbers-of-cases : NumbersOfCases
 numbers-of-cases = record { additions = refl; responses = refl }
 
 pub first-refusals : FirstRefusals
-unfolding leapYear daysInMonth dateExists daysOfYears daysOfMonths dayNumber studyDayOf measuredBeyond fitsBy refusalOn
+unfolding leapYear daysInMonth dateExists daysOfYears daysOfMonths dayNumber studyDayOf measuredBeyond fitsBy refusalsOn
 first-refusals =
     record {
       fitting = refl;
@@ -60,11 +60,11 @@ unfolding leapYear daysInMonth dateExists daysOfYears daysOfMonths dayNumber stu
 lines-at-the-edges = record { visit = refl; therapy = refl; death = refl; afterProgression = refl; missing = refl; newLesion = refl }
 
 pub order-by-value : OrderByValue
-unfolding leapYear daysInMonth dateExists daysOfYears daysOfMonths dayNumber studyDayOf wrongSize largeMeasured setBeyond sizedUnmeasured withoutDisease outsideLimits notZero refusalOfRead measuredBeyond fitsBy enrolmentInRange followUpInRange inRange refusalOn refusalHeld
+unfolding leapYear daysInMonth dateExists daysOfYears daysOfMonths dayNumber studyDayOf wrongSize largeMeasured setBeyond sizedUnmeasured withoutDisease outsideLimits notZero refusalsOfRead measuredBeyond fitsBy enrolmentInRange followUpInRange inRange refusalsOn refusalHeld
 order-by-value = record { outsideFirst = refl; dateBeforeBaseline = refl; secondBaseline = refl; visit = refl }
 
 pub order-from-bytes : OrderFromBytes
-unfolding leapYear daysInMonth dateExists daysOfYears daysOfMonths dayNumber studyDayOf wrongSize largeMeasured setBeyond sizedUnmeasured withoutDisease outsideLimits notZero refusalOfRead bytesNumber statusFrom baselineIn visitIn spareIn rawIn refusalOfNumber refusalOfBytes recordOfBytes measuredBeyond fitsBy enrolmentInRange followUpInRange inRange refusalOn refusalFromBytes
+unfolding leapYear daysInMonth dateExists daysOfYears daysOfMonths dayNumber studyDayOf wrongSize largeMeasured setBeyond sizedUnmeasured withoutDisease outsideLimits notZero refusalsOfRead bytesNumber statusFrom baselineIn visitIn spareIn rawIn refusalsOfNumber refusalsOfBytes recordOfBytes measuredBeyond fitsBy enrolmentInRange followUpInRange inRange refusalsOn refusalFromBytes
 order-from-bytes =
     record {
       outsideFirst = refl;

@@ -8,6 +8,8 @@ use Rattle.dates.specs.Laws.{ymd}
 use Rattle.records.specs.Examples.{visitDated, therapyDated, deathDated}
 use Rattle.codec.specs.Examples.{eleven, printedBytes, printedVisitBytes}
 use Rattle.records.specs.declared.Record.{Record}
+use Rattle.laws.specs.Refusals.{first}
+use Rattle.records.specs.declared.OwnRefusal.the-variants as N
 use Rattle.records.specs.declared.Status.the-variants as S
 use Rattle.criteria.specs.Words.{CR, PR, PD, NE, NA, NN}
 use Rattle.criteria.specs.Change.{none, signed}
@@ -22,7 +24,7 @@ use Rattle.held.specs.declared.CountingVisits.{CountingVisits}
 use Rattle.held.specs.Examples.{day, onDay, events, counts, noEvents, noCounts, disease, subjectWith, printedWith, printedOpened, printedVisited}
 use Rattle.placing.specs.Lines.{addResponses}
 use Rattle.placing.specs.Refusals.{addNumber}
-use Rattle.placing.specs.Promises.{refusalOnDay, linesOnDay, addedOnDay, responsesBy, subjectBy, refusalHeld, refusalFromBytes}
+use Rattle.placing.specs.Promises.{refusalsOnDay, linesOnDay, addedOnDay, responsesBy, subjectBy, refusalHeld, refusalFromBytes}
 use Rattle.placing.specs.declared.AddAnswer.{AddAnswer}
 use Rattle.placing.specs.declared.AddAnswer.the-variants as A
 use Rattle.placing.specs.declared.VisitResponse.{VisitResponse}
@@ -33,16 +35,16 @@ responses85 = record { day = day 85; target = T.CR; nontarget = S.NN; overall = 
 
 abbrev pub cases : List AddAnswer
 cases =
-    A.Done ∷ A.Judged responses85 ∷ A.NotElevenBytes ∷ A.NoSuchKind ∷ A.NoSuchDate ∷ A.OutsideLimits ∷ A.NotZero ∷ A.SecondBaseline ∷ A.AfterDeath
-    ∷ A.TooEarly ∷ A.Misfit ∷ A.OutOfRange ∷ []
+    A.Done ∷ A.Judged responses85 ∷ A.NotElevenBytes ∷ A.NoSuchKind ∷ A.Refused N.NotZero ∷ A.SecondBaseline ∷ A.AfterDeath ∷ A.TooEarly ∷ A.Misfit
+    ∷ A.OutOfRange ∷ []
 
 pub record NumbersOfCases : Type 0 where
-  -- 1 to 5; 8 a baseline; 9 after a death; 10 day too early; 11 visit doesn't fit baseline; 12
-  pub additions : map addNumber cases ≡ 0 ∷ 0 ∷ 1 ∷ 2 ∷ 3 ∷ 4 ∷ 5 ∷ 8 ∷ 9 ∷ 10 ∷ 11 ∷ 12 ∷ []
+  -- 1 and 2; the record's own number, here 5; 8 a baseline; 9 after a death; 10 day too early; 11 visit doesn't fit baseline; 12
+  pub additions : map addNumber cases ≡ 0 ∷ 0 ∷ 1 ∷ 2 ∷ 5 ∷ 8 ∷ 9 ∷ 10 ∷ 11 ∷ 12 ∷ []
   -- study day, target, non-target, overall, change; no other record has them, and a refusal carries its number and nothing else
   pub responses : map addResponses cases
       ≡ [] ∷ (record { day = 85; target = CR; nontarget = NN; overall = PR; change = signed true 850 } ∷ [])
-      ∷ [] ∷ [] ∷ [] ∷ [] ∷ [] ∷ [] ∷ [] ∷ [] ∷ [] ∷ [] ∷ []
+      ∷ [] ∷ [] ∷ [] ∷ [] ∷ [] ∷ [] ∷ [] ∷ [] ∷ []
 
 -- after the printed baseline and its visit of day 43: a therapy of day 50; a death of day 50; and with a progression of day 43
 abbrev pub response43 : CountingVisits
@@ -70,22 +72,22 @@ visit85 = visitDated (ymd 2020 3 25) S.NN false (true ∷ true ∷ []) (24 ∷ 1
 
 pub record FirstRefusals : Type 0 where
   -- a visit later than the latest day that fits the baseline
-  pub fitting : refusalOnDay printedOpened visited ≡ 0
+  pub fitting : first (refusalsOnDay printedOpened visited) ≡ 0
   -- 8 before 9, 9 before 10
-  pub secondBaseline : refusalOnDay died (printedBaseline (ymd 2020 2 12)) ≡ 8
-  pub afterDeath : refusalOnDay died (therapyDated (ymd 2020 2 1)) ≡ 9
+  pub secondBaseline : first (refusalsOnDay died (printedBaseline (ymd 2020 2 12))) ≡ 8
+  pub afterDeath : first (refusalsOnDay died (therapyDated (ymd 2020 2 1))) ≡ 9
   -- 10: a visit on the latest day, a therapy and a death before it; not on it
-  pub visitOnLatest : refusalOnDay printedVisited visited ≡ 10
-  pub therapyBefore : refusalOnDay printedVisited (therapyDated (ymd 2020 2 11)) ≡ 10
-  pub therapyOnLatest : refusalOnDay printedVisited (therapyDated (ymd 2020 2 12)) ≡ 0
-  pub deathBefore : refusalOnDay printedVisited (deathDated (ymd 2020 2 11)) ≡ 10
-  pub deathOnLatest : refusalOnDay printedVisited (deathDated (ymd 2020 2 12)) ≡ 0
-  pub beforeRandomisation : refusalOnDay printedOpened (therapyDated (ymd 2019 12 31)) ≡ 10
+  pub visitOnLatest : first (refusalsOnDay printedVisited visited) ≡ 10
+  pub therapyBefore : first (refusalsOnDay printedVisited (therapyDated (ymd 2020 2 11))) ≡ 10
+  pub therapyOnLatest : first (refusalsOnDay printedVisited (therapyDated (ymd 2020 2 12))) ≡ 0
+  pub deathBefore : first (refusalsOnDay printedVisited (deathDated (ymd 2020 2 11))) ≡ 10
+  pub deathOnLatest : first (refusalsOnDay printedVisited (deathDated (ymd 2020 2 12))) ≡ 0
+  pub beforeRandomisation : first (refusalsOnDay printedOpened (therapyDated (ymd 2019 12 31))) ≡ 10
   -- 10 before 11
-  pub misfitOnLatest : refusalOnDay printedVisited (visitDated (ymd 2020 2 12) S.NA false [] []) ≡ 10
-  pub statusNA : refusalOnDay printedOpened (visitDated (ymd 2020 2 12) S.NA false [] []) ≡ 11
-  pub statusWithoutLesions : refusalOnDay withoutNontarget visited ≡ 11
-  pub beyondCount : refusalOnDay printedOpened (visitDated (ymd 2020 2 12) S.NN false (false ∷ false ∷ true ∷ []) []) ≡ 11
+  pub misfitOnLatest : first (refusalsOnDay printedVisited (visitDated (ymd 2020 2 12) S.NA false [] [])) ≡ 10
+  pub statusNA : first (refusalsOnDay printedOpened (visitDated (ymd 2020 2 12) S.NA false [] [])) ≡ 11
+  pub statusWithoutLesions : first (refusalsOnDay withoutNontarget visited) ≡ 11
+  pub beyondCount : first (refusalsOnDay printedOpened (visitDated (ymd 2020 2 12) S.NN false (false ∷ false ∷ true ∷ []) [])) ≡ 11
 
 pub record AddedAtTheEdges : Type 0 where
   -- the nadir, v, the last evaluable visit and the first counting response move with a visit; a therapy and a death are recorded

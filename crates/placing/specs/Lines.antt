@@ -37,14 +37,12 @@ addResponses A.Done = []
 addResponses (A.Judged v) = responseValues v ∷ []
 addResponses A.NotElevenBytes = []
 addResponses A.NoSuchKind = []
-addResponses A.NoSuchDate = []
-addResponses A.OutsideLimits = []
-addResponses A.NotZero = []
 addResponses A.SecondBaseline = []
 addResponses A.AfterDeath = []
 addResponses A.TooEarly = []
 addResponses A.Misfit = []
 addResponses A.OutOfRange = []
+addResponses (A.Refused own) = []
 
 abbrev pub lineOn : Enrolment → FollowUp → StudyDay → VisitEntry → List Bool → List ℕ → VisitLine
 lineOn e f day v measured sizes =

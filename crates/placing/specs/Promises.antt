@@ -1,30 +1,32 @@
 -- Document 01, "Contracts" a and "Where a call stops": what adding promises, for every record value, every byte string and every subject.
 -- Assumes nothing.
 use mathlib.Core.Path.{_≡_}
-use mathlib.Core.List.{List, []}
+use mathlib.Core.Bool.{not}
+use mathlib.Core.List.{List, [], _∷_, _++_}
 use Prim.Native.Nat.{ℕ}
 use lib.Dec.{eqb}
 use Rattle.laws.specs.Choice.{pick}
+use Rattle.laws.specs.Refusals.{Refusal, _when_, first}
 use Rattle.packing.specs.Layout.{AreBytes}
 use Rattle.dates.specs.declared.StudyDay.{StudyDay}
 use Rattle.records.specs.declared.Record.{Record}
 use Rattle.records.specs.Form.{dateOf}
-use Rattle.records.specs.Refusals.{refusalOf}
-use Rattle.codec.specs.Reading.{refusalOfBytes, recordOfBytes}
+use Rattle.records.specs.Refusals.{refusalsOf}
+use Rattle.codec.specs.Reading.{refusalsOfBytes, recordOfBytes}
 use Rattle.endpoints.specs.Lines.{VisitLine}
 use Rattle.held.specs.declared.Subject.{Subject}
 use Rattle.held.specs.Range.{inRange}
 use Rattle.placing.specs.declared.AddAnswer.{AddAnswer}
 use Rattle.placing.specs.Added.{heldDay, entryAdded}
 use Rattle.placing.specs.Lines.{addResponses, linesOn}
-use Rattle.placing.specs.Refusals.{addNumber, refusalOn, firstRefusal}
+use Rattle.placing.specs.Refusals.{addNumber, refusalsOn}
 
 -- the study day of a record, and on it 8 to 11, the responses and the subject after it
 abbrev pub dayOn : Subject → Record → StudyDay
 dayOn s r = heldDay (s .enrolment .randomisation) (dateOf (r .entry))
 
-abbrev pub refusalOnDay : Subject → Record → ℕ
-refusalOnDay s r = refusalOn (s .enrolment) (s .followup) (dayOn s r) (r .entry) (r .marks)
+abbrev pub refusalsOnDay : Subject → Record → List Refusal
+refusalsOnDay s r = refusalsOn (s .enrolment) (s .followup) (dayOn s r) (r .entry) (r .marks)
 
 abbrev pub linesOnDay : Subject → Record → List VisitLine
 linesOnDay s r = linesOn (s .enrolment) (s .followup) (dayOn s r) (r .entry) (r .marks) (r .sizes)
@@ -47,7 +49,7 @@ pub record Answered (s : Subject) (r : Record) (n : ℕ) (a : AddAnswer) (t : Su
 
 -- 12 before the record, then 3 to 5, then 8 to 11; 0 for none
 unfoldable pub refusalHeld : Subject → Record → ℕ
-refusalHeld s r = firstRefusal (inRange s) (refusalOf r) (refusalOnDay s r)
+refusalHeld s r = first (12 when not (inRange s) ∷ refusalsOf r ++ refusalsOnDay s r)
 
 -- adding a record
 abbrev pub Added : Subject → Record → AddAnswer → Subject → Type 0
@@ -55,7 +57,7 @@ Added s r a t = Answered s r (refusalHeld s r) a t
 
 -- 12 before the bytes, then 1 to 5, then 8 to 11; 0 for none
 unfoldable pub refusalFromBytes : Subject → List ℕ → ℕ
-refusalFromBytes s bytes = firstRefusal (inRange s) (refusalOfBytes bytes) (refusalOnDay s (recordOfBytes bytes))
+refusalFromBytes s bytes = first (12 when not (inRange s) ∷ refusalsOfBytes bytes ++ refusalsOnDay s (recordOfBytes bytes))
 
 -- adding a record from its bytes
 pub record AddedBytes (s : Subject) (bytes : List ℕ) (a : AddAnswer) (t : Subject) : Type 0 where

@@ -2,13 +2,14 @@
 -- Assumes nothing.
 use Prim.Native.Nat.{ℕ}
 use mathlib.Core.Bool.{Bool, false, not}
-use mathlib.Core.List.{List}
+use mathlib.Core.List.{List, [], _∷_}
 use lib.Dec.{leb, ltb, eqb}
-use Rattle.laws.specs.Choice.{pick}
+use Rattle.laws.specs.Refusals.{Refusal, _when_}
 use Rattle.dates.specs.declared.StudyDay.{StudyDay}
 use Rattle.records.specs.declared.Entry.{Entry}
 use Rattle.records.specs.declared.Entry.the-variants as E
 use Rattle.records.specs.Form.{kindNumber}
+use Rattle.records.specs.Refusals.{ownNumber}
 use Rattle.endpoints.specs.Values.{isRecorded, dayValue}
 use Rattle.endpoints.specs.Lawful.{fitsBy}
 use Rattle.held.specs.declared.Enrolment.{Enrolment}
@@ -22,14 +23,12 @@ addNumber A.Done = 0
 addNumber (A.Judged v) = 0
 addNumber A.NotElevenBytes = 1
 addNumber A.NoSuchKind = 2
-addNumber A.NoSuchDate = 3
-addNumber A.OutsideLimits = 4
-addNumber A.NotZero = 5
 addNumber A.SecondBaseline = 8
 addNumber A.AfterDeath = 9
 addNumber A.TooEarly = 10
 addNumber A.Misfit = 11
 addNumber A.OutOfRange = 12
+addNumber (A.Refused own) = ownNumber own
 
 -- each visit is later than the latest day so far, each therapy or death on or after it
 abbrev pub earlyOn : FollowUp → StudyDay → Entry → Bool
@@ -44,14 +43,10 @@ misfitOn e (E.Visit v) measured = not (fitsBy (e .baseline .count) (e .nontarget
 misfitOn e (E.Therapy d) measured = false
 misfitOn e (E.Death d) measured = false
 
--- 9 after a death; 10 day too early; 11 visit doesn't fit baseline; 0 for none
-abbrev pub refusalBy : Bool → Bool → Bool → ℕ
-refusalBy dead early misfit = pick dead 9 (pick early 10 (pick misfit 11 0))
+-- 9 after a death; 10 day too early; 11 visit doesn't fit baseline
+abbrev pub refusalsBy : FollowUp → Bool → Bool → List Refusal
+refusalsBy f early misfit = 9 when isRecorded (dayValue (f .death)) ∷ 10 when early ∷ 11 when misfit ∷ []
 
 -- 8 a baseline, before these
-unfoldable pub refusalOn : Enrolment → FollowUp → StudyDay → Entry → List Bool → ℕ
-refusalOn e f day r marks = pick (eqb (kindNumber r) 1) 8 (refusalBy (isRecorded (dayValue (f .death))) (earlyOn f day r) (misfitOn e r marks))
-
--- 12, then the record's own number, then 8 to 11
-abbrev pub firstRefusal : Bool → ℕ → ℕ → ℕ
-firstRefusal inside own n = pick inside (pick (eqb own 0) n own) 12
+unfoldable pub refusalsOn : Enrolment → FollowUp → StudyDay → Entry → List Bool → List Refusal
+refusalsOn e f day r marks = 8 when eqb (kindNumber r) 1 ∷ refusalsBy f (earlyOn f day r) (misfitOn e r marks)

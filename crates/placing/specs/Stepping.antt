@@ -6,6 +6,7 @@ use mathlib.Core.List.{List, []}
 use Prim.Native.Nat.{ℕ}
 use lib.Dec.{ltb, eqb}
 use Rattle.laws.specs.Choice.{pick}
+use Rattle.laws.specs.Refusals.{first}
 use Rattle.packing.specs.Layout.{AreBytes}
 use Rattle.dates.specs.declared.Date.{Date}
 use Rattle.dates.specs.declared.StudyDay.{StudyDay}
@@ -15,14 +16,13 @@ use Rattle.records.specs.declared.Record.{Record}
 use Rattle.records.specs.Form.{dateOf}
 use Rattle.records.specs.Refusals.{refusalOf}
 use Rattle.codec.specs.Reading.{refusalOfBytes, recordOfBytes}
-use Rattle.endpoints.specs.Values.{isRecorded, dayValue}
 use Rattle.held.specs.declared.Enrolment.{Enrolment}
 use Rattle.held.specs.declared.FollowUp.{FollowUp}
 use Rattle.placing.specs.declared.Dated.{Dated}
 use Rattle.placing.specs.declared.Step.{Step}
 use Rattle.placing.specs.Added.{heldDay, entryAdded}
 use Rattle.placing.specs.Lines.{addResponses, linesOn}
-use Rattle.placing.specs.Refusals.{addNumber, refusalBy, refusalOn, firstRefusal}
+use Rattle.placing.specs.Refusals.{addNumber, refusalsBy, refusalsOn}
 
 -- a record value on its study day, with the number of its own refusal
 pub record DatedAs (randomisation : Date) (r : Record) (x : Dated) : Type 0 where
@@ -44,12 +44,15 @@ pub record StepsBy (e : Enrolment) (f : FollowUp) (day : StudyDay) (r : Entry) (
   pub responses : addResponses (x .answer) ≡ pick (eqb n 0) (linesOn e f day r marks sizes) []
   pub left : x .followup ≡ pick (eqb n 0) (entryAdded e f day r marks sizes) f
 
--- 12, the record's own, then 8 to 11
+-- 12, then the number of the record's own, then that of 8 to 11, as the code has them
+abbrev pub firstRefusal : Bool → ℕ → ℕ → ℕ
+firstRefusal inside own n = pick inside (pick (eqb own 0) n own) 12
+
 abbrev pub Steps : Bool → Enrolment → FollowUp → StudyDay → ℕ → Entry → List Bool → List ℕ → Step → Type 0
-Steps inside e f day own r marks sizes x = StepsBy e f day r marks sizes (firstRefusal inside own (refusalOn e f day r marks)) x
+Steps inside e f day own r marks sizes x = StepsBy e f day r marks sizes (firstRefusal inside own (first (refusalsOn e f day r marks))) x
 
 -- of a therapy or a death, by the follow-up after it: 9, or 10 before the latest day; no responses
 pub record StepsLater (inside : Bool) (f : FollowUp) (d : Dated) (next : FollowUp) (x : Step) : Type 0 where
-  pub answer : addNumber (x .answer) ≡ firstRefusal inside (addNumber (d .own)) (refusalBy (isRecorded (dayValue (f .death))) (ltb (d .day .0) (f .latest .0)) false)
+  pub answer : addNumber (x .answer) ≡ firstRefusal inside (addNumber (d .own)) (first (refusalsBy f (ltb (d .day .0) (f .latest .0)) false))
   pub responses : addResponses (x .answer) ≡ []
   pub left : x .followup ≡ pick (eqb (addNumber (x .answer)) 0) next f

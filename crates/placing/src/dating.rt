@@ -8,13 +8,15 @@ use dates::Date;
 use dates::StudyDay;
 use dates::StudyDayAnswer;
 use records::Entry;
+use records::OwnRefusal;
 use records::Record;
 ghost use mathlib.Core.Path.{_≡_};
 ghost use mathlib.Core.Bool.{not};
 ghost use lib.Dec.{eqb};
 ghost use Rattle.packing.specs.Layout.{AreBytes};
 ghost use Rattle.dates.specs.Answers.{studyDayValues};
-ghost use Rattle.records.specs.Refusals.{refusalOfFields};
+ghost use Rattle.laws.specs.Refusals.{first};
+ghost use Rattle.records.specs.Refusals.{refusalsOfFields};
 ghost use Rattle.records.specs.declared.Entry.the-variants as E;
 ghost use Rattle.codec.specs.Reading.{rawVisit, refusalOfBytes, recordOfBytes};
 ghost use Rattle.placing.specs.Refusals.{addNumber};
@@ -43,12 +45,12 @@ fn exists(counted: StudyDayAnswer) -> bool
 
 // 3 by the date that was counted, then 4 and 5.
 fn own_of_visit(counted: StudyDayAnswer, v: VisitFields) -> AddAnswer
-    ensures { λ a. ⌜ addNumber a ≡ refusalOfFields (eqb (studyDayValues counted .refusal) 3) (E.Visit (v .entry)) (v .measured) (v .sizes) (v .badstatus) (v .spare) ⌝ }
+    ensures { λ a. ⌜ addNumber a ≡ first (refusalsOfFields (eqb (studyDayValues counted .refusal) 3) (E.Visit (v .entry)) (v .measured) (v .sizes) (v .badstatus) (v .spare)) ⌝ }
 {
     let measured = v.measured;
     let sizes = v.sizes;
     if !exists(counted) {
-        return AddAnswer::NoSuchDate;
+        return AddAnswer::Refused(OwnRefusal::NoSuchDate);
     }
     own_answer(records::check_visit(measured, sizes, v.badstatus, v.spare))
 }

@@ -6,6 +6,7 @@ use criteria::Target;
 use dates::StudyDay;
 use held::FollowUp;
 use held::Subject;
+use records::OwnRefusal;
 use records::Record;
 use records::Status;
 ghost use mathlib.Core.Path.{_≡_};
@@ -40,14 +41,13 @@ pub enum AddAnswer {
     // This and the next from bytes alone.
     NotElevenBytes,
     NoSuchKind,
-    NoSuchDate,
-    OutsideLimits,
-    NotZero,
     SecondBaseline,
     AfterDeath,
     TooEarly,
     Misfit,
     OutOfRange,
+    // The record's own refusal.
+    Refused(OwnRefusal),
 }
 
 // The number in document 01; 0 where the record was added.
@@ -59,14 +59,12 @@ pub fn add_number(answer: AddAnswer) -> u8
         AddAnswer::Judged(_) => 0,
         AddAnswer::NotElevenBytes => 1,
         AddAnswer::NoSuchKind => 2,
-        AddAnswer::NoSuchDate => 3,
-        AddAnswer::OutsideLimits => 4,
-        AddAnswer::NotZero => 5,
         AddAnswer::SecondBaseline => 8,
         AddAnswer::AfterDeath => 9,
         AddAnswer::TooEarly => 10,
         AddAnswer::Misfit => 11,
         AddAnswer::OutOfRange => 12,
+        AddAnswer::Refused(own) => records::own_number(own),
     }
 }
 

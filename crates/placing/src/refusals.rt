@@ -12,20 +12,19 @@ use results::is_recorded;
 ghost use mathlib.Core.Path.{_≡_};
 ghost use mathlib.Core.Bool.{false};
 ghost use lib.Dec.{ltb};
+ghost use Rattle.laws.specs.Refusals.{first};
 ghost use Rattle.records.specs.Refusals.{checkNumber};
 ghost use Rattle.records.specs.declared.Entry.the-variants as E;
 ghost use Rattle.codec.specs.Reading.{readNumber};
-ghost use Rattle.endpoints.specs.Values.{isRecorded, dayValue};
-ghost use Rattle.placing.specs.Refusals.{addNumber, refusalBy, refusalOn, firstRefusal};
+ghost use Rattle.placing.specs.Refusals.{addNumber, refusalsBy, refusalsOn};
+ghost use Rattle.placing.specs.Stepping.{firstRefusal};
 
 pub(crate) fn own_answer(answer: CheckAnswer) -> AddAnswer
     ensures { λ a. ⌜ addNumber a ≡ checkNumber answer ⌝ }
 {
     match answer {
         CheckAnswer::Passed => AddAnswer::Done,
-        CheckAnswer::NoSuchDate => AddAnswer::NoSuchDate,
-        CheckAnswer::OutsideLimits => AddAnswer::OutsideLimits,
-        CheckAnswer::NotZero => AddAnswer::NotZero,
+        CheckAnswer::Refused(own) => AddAnswer::Refused(own),
     }
 }
 
@@ -36,9 +35,7 @@ pub(crate) fn read_answer(answer: ReadAnswer) -> AddAnswer
         ReadAnswer::Done => AddAnswer::Done,
         ReadAnswer::NotElevenBytes => AddAnswer::NotElevenBytes,
         ReadAnswer::NoSuchKind => AddAnswer::NoSuchKind,
-        ReadAnswer::NoSuchDate => AddAnswer::NoSuchDate,
-        ReadAnswer::OutsideLimits => AddAnswer::OutsideLimits,
-        ReadAnswer::NotZero => AddAnswer::NotZero,
+        ReadAnswer::Refused(own) => AddAnswer::Refused(own),
     }
 }
 
@@ -56,7 +53,7 @@ pub(crate) fn first_refusal(inside: bool, own: AddAnswer, behind: AddAnswer) -> 
 
 // 9 to 11.
 fn refusal_behind(f: FollowUp, early: bool, misfit: bool) -> AddAnswer
-    ensures { λ a. ⌜ addNumber a ≡ refusalBy (isRecorded (dayValue (f .death))) early misfit ⌝ }
+    ensures { λ a. ⌜ addNumber a ≡ first (refusalsBy f early misfit) ⌝ }
 {
     let death = f.death;
     if is_recorded(death) {
@@ -79,7 +76,7 @@ pub(crate) fn refusal_of_visit(
     v: VisitEntry,
     measured: [bool; 5],
 ) -> AddAnswer
-    ensures { λ a. ⌜ addNumber a ≡ refusalOn e f day (E.Visit v) measured ⌝ }
+    ensures { λ a. ⌜ addNumber a ≡ first (refusalsOn e f day (E.Visit v) measured) ⌝ }
 {
     let status = v.status;
     let fit = fits(e.baseline.count, e.nontarget, status, measured);
@@ -88,7 +85,7 @@ pub(crate) fn refusal_of_visit(
 
 // 9 and 10 of a therapy or a death, which is on or after the latest day.
 pub(crate) fn refusal_on_or_after(f: FollowUp, day: StudyDay) -> AddAnswer
-    ensures { λ a. ⌜ addNumber a ≡ refusalBy (isRecorded (dayValue (f .death))) (ltb (day .0) (f .latest .0)) false ⌝ }
+    ensures { λ a. ⌜ addNumber a ≡ first (refusalsBy f (ltb (day .0) (f .latest .0)) false) ⌝ }
 {
     refusal_behind(f, day.0 < f.latest.0, false)
 }

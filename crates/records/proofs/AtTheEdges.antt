@@ -2,11 +2,11 @@
 -- Assumes nothing.
 use mathlib.Core.Path.{refl}
 use Rattle.dates.specs.Calendar.{leapYear, daysInMonth, dateExists}
-use Rattle.records.specs.Refusals.{wrongSize, largeMeasured, setBeyond, sizedUnmeasured, withoutDisease, outsideLimits, notZero, refusalOfRead}
+use Rattle.records.specs.Refusals.{wrongSize, largeMeasured, setBeyond, sizedUnmeasured, withoutDisease, outsideLimits, notZero, refusalsOfRead}
 use Rattle.records.specs.Examples.{OwnRefusals, NumbersOfCases}
 
 pub own-refusals : OwnRefusals
-unfolding leapYear daysInMonth dateExists wrongSize largeMeasured setBeyond sizedUnmeasured withoutDisease outsideLimits notZero refusalOfRead
+unfolding leapYear daysInMonth dateExists wrongSize largeMeasured setBeyond sizedUnmeasured withoutDisease outsideLimits notZero refusalsOfRead
 own-refusals =
     record {
       node15 = refl;
@@ -45,4 +45,4 @@ own-refusals =
     }
 
 pub numbers-of-cases : NumbersOfCases
-numbers-of-cases = record { kinds = refl; dates = refl; statuses = refl; refusals = refl }
+numbers-of-cases = record { kinds = refl; dates = refl; statuses = refl; refusals = refl; answers = refl }

@@ -1,24 +1,28 @@
--- What a record that no refusal of its own meets says of its fields.
+-- What a record that no refusal of its own meets says of its fields; the numbers of its own refusals, and the refusals that come after them.
 -- Assumes nothing.
 use mathlib.Core.Path.{_≡_, refl}
-use mathlib.Core.Bool.{Bool, true, false, not}
-use mathlib.Core.List.{List}
+use mathlib.Core.Bool.{Bool, true, false}
+use mathlib.Core.List.{List, _++_}
+use mathlib.Core.Logic.{_↔_}
 use Prim.Native.Nat.{ℕ, _≤_, _<_}
 use native.Mathlib.Omega.{arith}
-use lib.Dec.{ltb, leb}
+use lib.Dec.{ltb, leb, eqb}
 use lib.ListN.{getD}
 use borrow.Author.Tests.{ltb-false, le-leb, not-false}
 use Rattle.laws.specs.Choice.{both, either, pick}
+use Rattle.laws.specs.Refusals.{Refusal, first, Each, Numbered}
 use Rattle.laws.proofs.Tests.{either-false}
 use Rattle.laws.proofs.Some.{some-none}
-use Rattle.laws.proofs.Cases.{Some, pick-some}
+use Rattle.laws.proofs.Refusals.{none-meets, first-append, none-of-both}
 use Rattle.dates.specs.Calendar.{dateExists}
 use Rattle.records.specs.Form.{dateOf}
-use Rattle.records.specs.Refusals.{mostTargets, largestSize, leastSize, wrongSize, largeMeasured, setBeyond, sizedUnmeasured, targetAt, someTarget, withoutDisease, outsideLimits, notZero, firstOwn, refusalOfRead}
+use Rattle.records.specs.Refusals.{ownNumber, mostTargets, largestSize, leastSize, wrongSize, largeMeasured, setBeyond, sizedUnmeasured, targetAt, someTarget, withoutDisease, outsideLimits, notZero, refusalsOfRead, refusalsOf, refusalOf}
 use Rattle.records.specs.declared.Record.{Record}
 use Rattle.records.specs.declared.BaselineEntry.{BaselineEntry}
 use Rattle.records.specs.declared.Entry.{Entry}
 use Rattle.records.specs.declared.Entry.the-variants.{Baseline, Visit, Therapy, Death}
+use Rattle.records.specs.declared.OwnRefusal.{OwnRefusal}
+use Rattle.records.specs.declared.OwnRefusal.the-variants.{NoSuchDate, OutsideLimits, NotZero}
 
 pub record Passes (r : Record) (badstatus spare : Bool) : Type 0 where
   pub date : dateExists (dateOf (r .entry)) ≡ true
@@ -27,29 +31,39 @@ pub record Passes (r : Record) (badstatus spare : Bool) : Type 0 where
   pub clear : spare ≡ false
   pub zeros : notZero (r .entry) (r .marks) (r .sizes) ≡ false
 
--- each number that refuses a record by itself, and 0, is that of some case of an answer that has a case for each
-pub some-own : {A : Type 0} (number : A → ℕ) → Some number 3 → Some number 4 → Some number 5 → Some number 0 → (noDate outside set : Bool) →
-    Some number (firstOwn noDate outside set)
-some-own number three four five none noDate outside set = pick-some number noDate 3 _ three (pick-some number outside 4 _ four (pick-some number set 5 0 five none))
+pub own-not-0 : (own : OwnRefusal) → eqb (ownNumber own) 0 ≡ false
+own-not-0 NoSuchDate = refl
+own-not-0 OutsideLimits = refl
+own-not-0 NotZero = refl
 
-none-meets : (a b c : Bool) → firstOwn a b c ≡ 0 → (a ≡ false) × (b ≡ false) × (c ≡ false)
-none-meets true b c e = absurd (let w : ⊥ = omega arith in w)
-none-meets false true c e = absurd (let w : ⊥ = omega arith in w)
-none-meets false false true e = absurd (let w : ⊥ = omega arith in w)
-none-meets false false false e = (refl, refl, refl)
+-- what holds of 3, 4 and 5 holds of the number of each own refusal
+pub each-own : (P : ℕ → Type 0) → P 3 → P 4 → P 5 → (r : Record) (badstatus spare : Bool) → Each P (refusalsOfRead r badstatus spare)
+unfolding refusalsOfRead
+each-own P three four five r badstatus spare = (three, (four, (five, tt)))
 
-pub passes : (r : Record) (badstatus spare : Bool) → refusalOfRead r badstatus spare ≡ 0 → Passes r badstatus spare
-unfolding refusalOfRead
+pub own-numbered : (r : Record) (badstatus spare : Bool) → Numbered (refusalsOfRead r badstatus spare)
+own-numbered = each-own (λ (n : ℕ). 1 ≤ n) (omega arith) (omega arith) (omega arith)
+
+pub passes : (r : Record) (badstatus spare : Bool) → first (refusalsOfRead r badstatus spare) ≡ 0 → Passes r badstatus spare
+unfolding refusalsOfRead
 passes r badstatus spare e =
-    let t = none-meets (not (dateExists (dateOf (r .entry)))) _ _ e in
-    let l = either-false badstatus _ (t .1) in
-    let z = either-false spare _ (t .2) in
+    let t = none-meets (refusalsOfRead r badstatus spare) (own-numbered r badstatus spare) .0 e in
+    let l = either-false badstatus _ (t .1 .0) in
+    let z = either-false spare _ (t .1 .1 .0) in
     record { date = not-false _ (t .0); lawful = l .0; limits = l .1; clear = z .0; zeros = z .1 }
 
 -- conversely
-pub no-refusal : (r : Record) (badstatus spare : Bool) → Passes r badstatus spare → refusalOfRead r badstatus spare ≡ 0
-unfolding refusalOfRead
+pub no-refusal : (r : Record) (badstatus spare : Bool) → Passes r badstatus spare → first (refusalsOfRead r badstatus spare) ≡ 0
+unfolding refusalsOfRead
 no-refusal r badstatus spare p = rw (p .date, p .lawful, p .limits, p .clear, p .zeros)
+
+-- the refusals of a record before others
+module _ (r : Record) (others : List Refusal) where
+  pub after-own : first (refusalsOf r ++ others) ≡ pick (eqb (refusalOf r) 0) (first others) (refusalOf r)
+  after-own = first-append (refusalsOf r) others (own-numbered r false false)
+
+  pub none-after-own : (first (refusalsOf r ++ others) ≡ 0) ↔ ((refusalOf r ≡ 0) × (first others ≡ 0))
+  none-after-own = none-of-both (refusalsOf r) others (own-numbered r false false)
 
 -- a target beyond a count of 0 is clear
 pub clear-target : (k : ℕ) (mark : Bool) (size : ℕ) → setBeyond 0 k mark size ≡ false → (mark ≡ false) × (size ≡ 0)

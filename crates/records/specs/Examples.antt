@@ -8,8 +8,10 @@ use Prim.Native.Nat.{ℕ, zero, suc}
 use Rattle.dates.specs.Laws.{ymd}
 use Rattle.dates.specs.declared.Date.{Date}
 use Rattle.records.specs.Form.{dateOf, kindNumber, statusNumber}
-use Rattle.records.specs.Refusals.{checkNumber, refusalOf, refusalOfRead}
+use Rattle.laws.specs.Refusals.{first}
+use Rattle.records.specs.Refusals.{ownNumber, checkNumber, refusalsOfRead, refusalOf}
 use Rattle.records.specs.declared.CheckAnswer.the-variants as C
+use Rattle.records.specs.declared.OwnRefusal.the-variants as O
 use Rattle.records.specs.declared.Entry.{Entry}
 use Rattle.records.specs.declared.Entry.the-variants as E
 use Rattle.records.specs.declared.Record.{Record}
@@ -89,7 +91,7 @@ pub record OwnRefusals : Type 0 where
   pub measured0 : visited (true ∷ []) (0 ∷ []) ≡ 0
   pub measured500 : visited (true ∷ []) (500 ∷ []) ≡ 0
   pub measured501 : visited (true ∷ []) (501 ∷ []) ≡ 4
-  pub noStatus : refusalOfRead (visitDated (ymd 2020 2 12) S.NN false [] []) true false ≡ 4
+  pub noStatus : first (refusalsOfRead (visitDated (ymd 2020 2 12) S.NN false [] []) true false) ≡ 4
   -- 5 alone: targets beyond the count, the size of an unmeasured target, everything after a 0 assessed bit, and spare bits
   pub markBeyond : assessed 1 (false ∷ true ∷ []) (10 ∷ []) ≡ 5
   pub sizeBeyond : assessed 1 [] (10 ∷ 501 ∷ []) ≡ 5
@@ -107,10 +109,10 @@ pub record OwnRefusals : Type 0 where
   pub deathMark : refusalOf (withTargets (E.Death (ymd 2020 2 12)) (true ∷ []) []) ≡ 5
   pub deathSize : refusalOf (withTargets (E.Death (ymd 2020 2 12)) [] (1 ∷ [])) ≡ 5
   pub deathTarget : refusalOf (withTargets (E.Death (ymd 2020 2 12)) (true ∷ []) (501 ∷ [])) ≡ 5
-  pub spareBit : refusalOfRead (therapyDated (ymd 2020 2 12)) false true ≡ 5
+  pub spareBit : first (refusalsOfRead (therapyDated (ymd 2020 2 12)) false true) ≡ 5
   -- 3 before 4, and 4 before 5
-  pub dateFirst : refusalOfRead (visitDated (ymd 2021 2 29) S.NN false (true ∷ []) (501 ∷ 1 ∷ [])) true true ≡ 3
-  pub limitsNext : refusalOfRead (visitDated (ymd 2020 2 12) S.NN false (true ∷ []) (501 ∷ 1 ∷ [])) false true ≡ 4
+  pub dateFirst : first (refusalsOfRead (visitDated (ymd 2021 2 29) S.NN false (true ∷ []) (501 ∷ 1 ∷ [])) true true) ≡ 3
+  pub limitsNext : first (refusalsOfRead (visitDated (ymd 2020 2 12) S.NN false (true ∷ []) (501 ∷ 1 ∷ [])) false true) ≡ 4
 
 pub record NumbersOfCases : Type 0 where
   -- 1 baseline, 2 visit, 3 therapy, 4 death
@@ -119,4 +121,5 @@ pub record NumbersOfCases : Type 0 where
   -- 0 NA, 1 CR, 2 NN, 3 PD, 4 NE
   pub statuses : map statusNumber (S.NA ∷ S.CR ∷ S.NN ∷ S.PD ∷ S.NE ∷ []) ≡ 0 ∷ 1 ∷ 2 ∷ 3 ∷ 4 ∷ []
   -- 3 no such date in range; 4 field outside its limits; 5 something that must be zero isn't
-  pub refusals : map checkNumber (C.Passed ∷ C.NoSuchDate ∷ C.OutsideLimits ∷ C.NotZero ∷ []) ≡ 0 ∷ 3 ∷ 4 ∷ 5 ∷ []
+  pub refusals : map ownNumber (O.NoSuchDate ∷ O.OutsideLimits ∷ O.NotZero ∷ []) ≡ 3 ∷ 4 ∷ 5 ∷ []
+  pub answers : map checkNumber (C.Passed ∷ C.Refused O.NotZero ∷ []) ≡ 0 ∷ 5 ∷ []

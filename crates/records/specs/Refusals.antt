@@ -3,10 +3,11 @@
 use mathlib.Core.Path.{_≡_}
 use Prim.Native.Nat.{ℕ}
 use mathlib.Core.Bool.{Bool, false, not}
-use mathlib.Core.List.{List}
+use mathlib.Core.List.{List, [], _∷_}
 use lib.Dec.{ltb, leb, eqb}
 use lib.ListN.{getD}
 use Rattle.laws.specs.Choice.{both, either, pick, some}
+use Rattle.laws.specs.Refusals.{Refusal, _when_, first}
 use Rattle.dates.specs.Calendar.{dateExists}
 use Rattle.records.specs.Form.{dateOf}
 use Rattle.records.specs.declared.Entry.{Entry}
@@ -15,14 +16,20 @@ use Rattle.records.specs.declared.BaselineEntry.{BaselineEntry}
 use Rattle.records.specs.declared.VisitEntry.{VisitEntry}
 use Rattle.records.specs.declared.Record.{Record}
 use Rattle.records.specs.declared.CheckAnswer.{CheckAnswer}
-use Rattle.records.specs.declared.CheckAnswer.the-variants.{Passed, NoSuchDate, OutsideLimits, NotZero}
+use Rattle.records.specs.declared.CheckAnswer.the-variants.{Passed, Refused}
+use Rattle.records.specs.declared.OwnRefusal.{OwnRefusal}
+use Rattle.records.specs.declared.OwnRefusal.the-variants.{NoSuchDate, OutsideLimits, NotZero}
 
--- the number of each case in document 01; 0 where no refusal meets
+-- the number of each case in document 01
+abbrev pub ownNumber : OwnRefusal → ℕ
+ownNumber NoSuchDate = 3
+ownNumber OutsideLimits = 4
+ownNumber NotZero = 5
+
+-- 0 where no refusal meets
 abbrev pub checkNumber : CheckAnswer → ℕ
 checkNumber Passed = 0
-checkNumber NoSuchDate = 3
-checkNumber OutsideLimits = 4
-checkNumber NotZero = 5
+checkNumber (Refused own) = ownNumber own
 
 abbrev pub mostTargets : ℕ
 mostTargets = 5
@@ -81,23 +88,26 @@ notZero (Visit v) marks sizes = someTarget (λ (i : ℕ). sizedUnmeasured) marks
 notZero (Therapy d) marks sizes = someTarget (setBeyond 0) marks sizes
 notZero (Death d) marks sizes = someTarget (setBeyond 0) marks sizes
 
--- the first of the three that meets, 0 for none
-abbrev pub firstOwn : Bool → Bool → Bool → ℕ
-firstOwn noDate outside set = pick noDate 3 (pick outside 4 (pick set 5 0))
-
--- of fields, where their date is none or not, with a status that is none (4) or a spare bit that is set (5) beside them
-abbrev pub refusalOfFields : Bool → Entry → List Bool → List ℕ → Bool → Bool → ℕ
-refusalOfFields noDate e marks sizes badstatus spare =
-    firstOwn noDate (either badstatus (outsideLimits e marks sizes)) (either spare (notZero e marks sizes))
+-- the refusals of fields, where their date is none or not, with a status that is none (4) or a spare bit that is set (5) beside them
+abbrev pub refusalsOfFields : Bool → Entry → List Bool → List ℕ → Bool → Bool → List Refusal
+refusalsOfFields noDate e marks sizes badstatus spare =
+    3 when noDate
+    ∷ 4 when either badstatus (outsideLimits e marks sizes)
+    ∷ 5 when either spare (notZero e marks sizes)
+    ∷ []
 
 -- what checking the fields of a visit promises, whatever its entry: 4 and 5 alone
 abbrev pub ChecksVisit : List Bool → List ℕ → Bool → Bool → CheckAnswer → Type 0
-ChecksVisit measured sizes badstatus spare c = (v : VisitEntry) → checkNumber c ≡ refusalOfFields false (Visit v) measured sizes badstatus spare
+ChecksVisit measured sizes badstatus spare c = (v : VisitEntry) → checkNumber c ≡ first (refusalsOfFields false (Visit v) measured sizes badstatus spare)
 
 -- of what was read as a record, and of what stands beside it
-unfoldable pub refusalOfRead : Record → Bool → Bool → ℕ
-refusalOfRead r badstatus spare = refusalOfFields (not (dateExists (dateOf (r .entry)))) (r .entry) (r .marks) (r .sizes) badstatus spare
+unfoldable pub refusalsOfRead : Record → Bool → Bool → List Refusal
+refusalsOfRead r badstatus spare = refusalsOfFields (not (dateExists (dateOf (r .entry)))) (r .entry) (r .marks) (r .sizes) badstatus spare
 
 -- a record value has neither
+abbrev pub refusalsOf : Record → List Refusal
+refusalsOf r = refusalsOfRead r false false
+
+-- the first that meets, 0 for none
 abbrev pub refusalOf : Record → ℕ
-refusalOf r = refusalOfRead r false false
+refusalOf r = first (refusalsOf r)

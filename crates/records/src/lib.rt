@@ -2,9 +2,11 @@
 use dates::Date;
 ghost use mathlib.Core.Path.{_≡_};
 ghost use mathlib.Core.Bool.{false};
+ghost use mathlib.Core.List.{[], _∷_};
 ghost use Rattle.laws.specs.Choice.{either};
+ghost use Rattle.laws.specs.Refusals.{_when_, first};
 ghost use Rattle.records.specs.Form.{dateOf};
-ghost use Rattle.records.specs.Refusals.{withoutDisease, outsideLimits, notZero, checkNumber, firstOwn, ChecksVisit, refusalOfRead, refusalOf};
+ghost use Rattle.records.specs.Refusals.{ownNumber, checkNumber, withoutDisease, outsideLimits, notZero, ChecksVisit, refusalsOfRead, refusalOf};
 ghost use Rattle.records.specs.declared.Entry.the-variants.{Baseline};
 
 mod targets; // targets.rt: what some of the five targets breaks
@@ -52,18 +54,32 @@ pub struct Record {
     pub marks: [bool; 5],
 }
 
-// What a record's own refusals say of it.
-pub enum CheckAnswer {
-    Passed,
+// A record's own refusals, 3 to 5: the answers of reading, writing, opening and adding hold it.
+pub enum OwnRefusal {
     NoSuchDate,
     OutsideLimits,
     NotZero,
+}
+
+pub enum CheckAnswer {
+    Passed,
+    Refused(OwnRefusal),
 }
 
 pub const MOST_TARGETS: u8 = 5;
 
 // In millimetres.
 pub const LARGEST_SIZE: u16 = 500;
+
+pub fn own_number(refusal: OwnRefusal) -> u8
+    ensures { λ r. ⌜ r ≡ ownNumber refusal ⌝ }
+{
+    match refusal {
+        OwnRefusal::NoSuchDate => 3,
+        OwnRefusal::OutsideLimits => 4,
+        OwnRefusal::NotZero => 5,
+    }
+}
 
 pub fn date_of(entry: Entry) -> Date
     ensures { λ r. ⌜ r ≡ dateOf entry ⌝ }
@@ -103,13 +119,13 @@ fn not_zero(b: BaselineEntry, marks: [bool; 5], sizes: [u16; 5]) -> bool
 }
 
 fn first_of(outside: bool, set: bool) -> CheckAnswer
-    ensures { λ c. ⌜ checkNumber c ≡ firstOwn false outside set ⌝ }
+    ensures { λ c. ⌜ checkNumber c ≡ first (4 when outside ∷ 5 when set ∷ []) ⌝ }
 {
     if outside {
-        return CheckAnswer::OutsideLimits;
+        return CheckAnswer::Refused(OwnRefusal::OutsideLimits);
     }
     if set {
-        return CheckAnswer::NotZero;
+        return CheckAnswer::Refused(OwnRefusal::NotZero);
     }
     CheckAnswer::Passed
 }
@@ -131,7 +147,7 @@ pub fn check_visit(
 
 // Refusals 4 and 5, with a spare bit that is set beside them.
 fn check_fields(entry: Entry, marks: [bool; 5], sizes: [u16; 5], spare: bool) -> CheckAnswer
-    ensures { λ c. ⌜ checkNumber c ≡ firstOwn false (outsideLimits entry marks sizes) (either spare (notZero entry marks sizes)) ⌝ }
+    ensures { λ c. ⌜ checkNumber c ≡ first (4 when outsideLimits entry marks sizes ∷ 5 when either spare (notZero entry marks sizes) ∷ []) ⌝ }
 {
     match entry {
         Entry::Baseline(b) => {
@@ -149,16 +165,16 @@ fn check_fields(entry: Entry, marks: [bool; 5], sizes: [u16; 5], spare: bool) ->
 // The record's own refusals in the order of their numbers. What was read beside the record goes with them: a status that is none
 // is outside its limits, and a spare bit that is set is not zero.
 pub fn check_read(r: Record, badstatus: bool, spare: bool) -> CheckAnswer
-    ensures { λ c. ⌜ checkNumber c ≡ refusalOfRead r badstatus spare ⌝ }
+    ensures { λ c. ⌜ checkNumber c ≡ first (refusalsOfRead r badstatus spare) ⌝ }
 {
     let entry = r.entry;
     let marks = r.marks;
     let sizes = r.sizes;
     if !dates::date_exists(date_of(entry)) {
-        return CheckAnswer::NoSuchDate;
+        return CheckAnswer::Refused(OwnRefusal::NoSuchDate);
     }
     if badstatus {
-        return CheckAnswer::OutsideLimits;
+        return CheckAnswer::Refused(OwnRefusal::OutsideLimits);
     }
     check_fields(entry, marks, sizes, spare)
 }

@@ -12,6 +12,7 @@ use held::FollowUp;
 use held::Subject;
 use opening::OpenAnswer;
 use placing::AddAnswer;
+use records::OwnRefusal;
 use records::Record;
 use writing::WriteAnswer;
 
@@ -129,23 +130,24 @@ fn lengths() {
     history::listed(b"44,000 bytes\n", &zeros[..44000]);
 }
 
+fn print_own(refusal: OwnRefusal) {
+    io::print_decimal(libc::STDOUT_FILENO, records::own_number(refusal) as u64);
+    text(b"\n");
+}
+
 fn print_read(answer: ReadAnswer) {
     match answer {
         ReadAnswer::Done => text(b"0\n"),
         ReadAnswer::NotElevenBytes => text(b"1\n"),
         ReadAnswer::NoSuchKind => text(b"2\n"),
-        ReadAnswer::NoSuchDate => text(b"3\n"),
-        ReadAnswer::OutsideLimits => text(b"4\n"),
-        ReadAnswer::NotZero => text(b"5\n"),
+        ReadAnswer::Refused(own) => print_own(own),
     }
 }
 
 fn print_written(answer: WriteAnswer) {
     match answer {
         WriteAnswer::Done => text(b"0\n"),
-        WriteAnswer::NoSuchDate => text(b"3\n"),
-        WriteAnswer::OutsideLimits => text(b"4\n"),
-        WriteAnswer::NotZero => text(b"5\n"),
+        WriteAnswer::Refused(own) => print_own(own),
         WriteAnswer::ShortOutput => text(b"6\n"),
     }
 }

@@ -3,9 +3,9 @@
 use mathlib.Core.Path.{refl}
 use Rattle.dates.specs.Calendar.{leapYear, daysInMonth, dateExists, daysOfYears, daysOfMonths, dayNumber}
 use Rattle.dates.specs.Answers.{studyDayOf}
-use Rattle.records.specs.Refusals.{wrongSize, largeMeasured, setBeyond, sizedUnmeasured, withoutDisease, outsideLimits, notZero, refusalOfRead}
+use Rattle.records.specs.Refusals.{wrongSize, largeMeasured, setBeyond, sizedUnmeasured, withoutDisease, outsideLimits, notZero, refusalsOfRead}
 use Rattle.codec.specs.Bytes.{bytesNumber}
-use Rattle.codec.specs.Reading.{statusFrom, baselineIn, visitIn, rawIn, refusalOfNumber, refusalOfBytes, recordOfBytes}
+use Rattle.codec.specs.Reading.{statusFrom, baselineIn, visitIn, rawIn, refusalsOfNumber, refusalsOfBytes, recordOfBytes}
 use Rattle.parts.specs.Parts.{badLength}
 use Rattle.criteria.specs.Sums.{measuredSum, baselineSum, allMeasured}
 use Rattle.criteria.specs.Targets.{allGone, grown, shrunk, targetAnswer}
@@ -19,14 +19,14 @@ use Rattle.endpoints.specs.Pfs.{gapLimit, pfs}
 use Rattle.endpoints.specs.Best.{best, duration}
 use Rattle.endpoints.specs.Lines.{lineOf}
 use Rattle.endpoints.specs.Settled.{pfsSettledBy, bestSettledBy, durationSettledBy, pfsSettled, bestSettled, durationSettled}
-use Rattle.endpoints.specs.Adding.{refusalBehind, refusalOfOpening, refusalOfAdding}
+use Rattle.endpoints.specs.Adding.{refusalsBehind, refusalsOfOpening, refusalsOfAdding}
 use Rattle.file.specs.File.{startsLate, verdictOf}
 use Rattle.text.specs.Numerals.{decimal}
 use Rattle.text.specs.Text.{tenthsText, visitText, pfsText, bestText, durationText, settledText, outcomeText, refusalText, listingOf, pageOf}
 use Rattle.text.specs.Examples.{LinesAtTheEdges}
 
 pub lines-at-the-edges : LinesAtTheEdges
-unfolding leapYear daysInMonth dateExists daysOfYears daysOfMonths dayNumber studyDayOf wrongSize largeMeasured setBeyond sizedUnmeasured withoutDisease outsideLimits notZero refusalOfRead bytesNumber statusFrom baselineIn visitIn rawIn refusalOfNumber refusalOfBytes recordOfBytes badLength measuredSum baselineSum allMeasured allGone grown shrunk targetAnswer afterVisit overallBy overallAnswer changeBetween changeOf measuredBeyond fitsBy fits answerAt gapLimit pfs best duration lineOf pfsSettledBy bestSettledBy durationSettledBy pfsSettled bestSettled durationSettled refusalBehind refusalOfOpening refusalOfAdding startsLate verdictOf decimal tenthsText visitText pfsText bestText durationText settledText outcomeText refusalText listingOf pageOf
+unfolding leapYear daysInMonth dateExists daysOfYears daysOfMonths dayNumber studyDayOf wrongSize largeMeasured setBeyond sizedUnmeasured withoutDisease outsideLimits notZero refusalsOfRead bytesNumber statusFrom baselineIn visitIn rawIn refusalsOfNumber refusalsOfBytes recordOfBytes badLength measuredSum baselineSum allMeasured allGone grown shrunk targetAnswer afterVisit overallBy overallAnswer changeBetween changeOf measuredBeyond fitsBy fits answerAt gapLimit pfs best duration lineOf pfsSettledBy bestSettledBy durationSettledBy pfsSettled bestSettled durationSettled refusalsBehind refusalsOfOpening refusalsOfAdding startsLate verdictOf decimal tenthsText visitText pfsText bestText durationText settledText outcomeText refusalText listingOf pageOf
 lines-at-the-edges =
     record {
       first = refl;

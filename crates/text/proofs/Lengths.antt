@@ -11,6 +11,7 @@ use borrow.Author.Tests.{eqb-true}
 use Rattle.laws.specs.Choice.{pick}
 use Rattle.records.specs.declared.BaselineEntry.{BaselineEntry}
 use Rattle.records.specs.declared.Record.{Record}
+use Rattle.records.proofs.Passed.{none-after-own}
 use Rattle.codec.specs.Bytes.{recordLength}
 use Rattle.codec.specs.Reading.{recordOfBytes}
 use Rattle.codec.proofs.Found.{found-five}
@@ -19,8 +20,7 @@ use Rattle.endpoints.specs.Lawful.{Past, latestDay}
 use Rattle.endpoints.specs.Course.{course}
 use Rattle.endpoints.specs.Lines.{visitLines}
 use Rattle.endpoints.specs.Settled.{outcome}
-use Rattle.endpoints.specs.Adding.{notBaseline, refusalAfter, refusalOfOpening, refusalOfAdding}
-use Rattle.endpoints.proofs.Calls.{none-of-both}
+use Rattle.endpoints.specs.Adding.{refusalsAfter, refusalsOfOpening, refusalsOfAdding, refusalOfAdding}
 use Rattle.endpoints.proofs.Refusals.{own-passed}
 use Rattle.held.specs.declared.Subject.{Subject}
 use Rattle.held.specs.Laws.{Within}
@@ -31,7 +31,7 @@ use Rattle.outcome.specs.Laws.{DurationWithin, TellsWithin}
 use Rattle.outcome.proofs.Within.{calls-in-range}
 use Rattle.outcome.proofs.Runs.{opens, readable}
 use Rattle.outcome.proofs.Answers.{some-addition}
-use Rattle.outcome.proofs.Demand.{first, base, on-day, past, past-one-more, Held, grown, reading}
+use Rattle.outcome.proofs.Demand.{opened-with, base, on-day, past, past-one-more, Held, grown, reading}
 use Rattle.parts.specs.Parts.{mostRecords, badLength, parts, partsOf}
 use Rattle.file.specs.File.{refusalOfPart, refused, accepted, responseStartsLate, verdictFrom, verdictOf}
 use Rattle.file.proofs.Follows.{none-read, opened-taken}
@@ -57,7 +57,7 @@ module _ (x : BaselineEntry) (marks : List Bool) (sizes : List ℕ) (passes : fi
 
   -- the records accepted, by those behind the baseline
   abbrev whole : List Record → List Record
-  whole later = first x marks sizes ∷ later
+  whole later = opened-with x marks sizes ∷ later
 
   -- those behind it, newest first and on their study days
   abbrev behind : List Record → Past
@@ -104,13 +104,13 @@ module _ (x : BaselineEntry) (marks : List Bool) (sizes : List ℕ) (passes : fi
       r = recordOfBytes part
 
       accepts : refusalOfAdding (whole later) r ≡ 0
-      accepts = none-read part (refusalOfAdding (whole later) r) e .1
+      accepts = none-read part (refusalsOfAdding (whole later) r) e .1
 
       passed : fieldsPass (on-day x marks sizes r) ≡ true
-      unfolding refusalOfAdding
+      unfolding refusalsOfAdding
       passed =
           own-passed (x .date) r (found-five part)
-          (none-of-both r (refusalAfter (onStudyDays (whole later)) (on-day x marks sizes r)) .0 accepts .0)
+          (none-after-own r (refusalsAfter (onStudyDays (whole later)) (on-day x marks sizes r)) .0 accepts .0)
 
       one-more : Known (later ++ (r ∷ [])) (subjectBy s r (refusalHeld s r))
       one-more =
@@ -147,10 +147,10 @@ module _ (part : List ℕ) (ps : List (List ℕ)) (h : length ps ≤ 3999) where
 
   -- an accepted opening leaves a held subject and nothing behind it
   opened-short : refusalOfPart [] part ≡ 0 → length (listingFrom (opening ∷ []) 1 ps) ≤ longestListing
-  unfolding refusalOfOpening
+  unfolding refusalsOfOpening
   opened-short e =
-      let accepts = none-read part (refusalOfOpening opening) e .1 in
-      let own = none-of-both opening (notBaseline (opening .entry)) .0 accepts in
+      let accepts = none-read part (refusalsOfOpening opening) e .1 in
+      let own = none-after-own opening _ .0 accepts in
       let made = opens opening (found-five part) in
       let t = opened-taken (opening .entry) (opening .marks) (opening .sizes) (made .2) (made .2 .answer ∙ accepts) (own .1) in
       let alone : t .later ≡ [] = cc (t .opens) in

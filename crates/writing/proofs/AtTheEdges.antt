@@ -2,10 +2,10 @@
 -- Assumes nothing.
 use mathlib.Core.Path.{refl}
 use Rattle.dates.specs.Calendar.{leapYear, daysInMonth, dateExists}
-use Rattle.records.specs.Refusals.{setBeyond, outsideLimits, notZero, refusalOfRead}
+use Rattle.records.specs.Refusals.{setBeyond, outsideLimits, notZero, refusalsOfRead}
 use Rattle.writing.specs.Writing.{refusalOfWrite}
 use Rattle.writing.specs.Examples.{FirstRefusals}
 
 pub first-refusals : FirstRefusals
-unfolding leapYear daysInMonth dateExists setBeyond outsideLimits notZero refusalOfRead refusalOfWrite
+unfolding leapYear daysInMonth dateExists setBeyond outsideLimits notZero refusalsOfRead refusalOfWrite
 first-refusals = record { badIntoShort = refl; intoTen = refl; intoEleven = refl; numbers = refl }

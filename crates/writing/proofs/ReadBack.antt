@@ -21,7 +21,7 @@ use Rattle.records.specs.declared.Status.{Status}
 use Rattle.records.specs.declared.Status.the-variants.{NA, CR, NN, PD, NE}
 use Rattle.records.proofs.Passed.{passes, clear-target}
 use Rattle.codec.specs.Bytes.{recordLength, bit, headLayout, bodyLayout, headFields, targetFields, bodyFields, layoutOf, fieldsOf, recordNumber, bytesOf, bytesNumber}
-use Rattle.codec.specs.Reading.{isOne, dateFrom, marksFrom, sizesFrom, statusFrom, baselineFrom, visitFrom, spareFrom, baselineIn, visitIn, spareIn, rawIn, kindIn, refusalOfNumber, refusalOfBytes, recordOfBytes}
+use Rattle.codec.specs.Reading.{isOne, dateFrom, marksFrom, sizesFrom, statusFrom, baselineFrom, visitFrom, spareFrom, baselineIn, visitIn, spareIn, rawIn, kindIn, refusalsOfNumber, refusalsOfBytes, refusalOfBytes, recordOfBytes}
 use Rattle.writing.proofs.Parts.{status-le, kind-range, head-fits, body-fits}
 
 isOne-bit : (b : Bool) → isOne (bit b) ≡ b
@@ -110,7 +110,7 @@ module _ (r : Record) (five : Five r) (fine : refusalOf r ≡ 0) where
       (fields-back (r .marks) (r .sizes) (five .marks) (five .sizes) (r .entry) _ (passes r false false fine .zeros) fields-of-number)
 
   pub no-refusal-back : refusalOfBytes (bytesOf r) ≡ 0
-  unfolding refusalOfBytes bytesOf refusalOfNumber
+  unfolding refusalsOfBytes bytesOf refusalsOfNumber
   no-refusal-back =
       let k = kind-range (r .entry) in
       rw (kind-read, le-leb 1 (kindNumber (r .entry)) (k .0), le-leb (kindNumber (r .entry)) 4 (k .1), raw-read) fine

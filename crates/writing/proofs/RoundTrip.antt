@@ -6,11 +6,12 @@ use Prim.Native.Nat.{ℕ, _≤_}
 use lib.ListN.{length, take, drop}
 use borrow.Author.Tests.{le-ltb}
 use Rattle.dates.specs.Calendar.{leapYear, daysInMonth, dateExists}
-use Rattle.records.specs.Refusals.{wrongSize, setBeyond, withoutDisease, outsideLimits, notZero, refusalOfRead, refusalOf}
+use Rattle.records.specs.Refusals.{wrongSize, setBeyond, withoutDisease, outsideLimits, notZero, refusalsOfRead, refusalOf}
 use Rattle.records.specs.declared.Record.{Record}
+use Rattle.records.proofs.Passed.{none-after-own}
 use Rattle.codec.specs.Bytes.{recordLength, recordNumber, bytesOf, bytesNumber}
 use Rattle.codec.specs.Examples.{printedBaseline, printedBytes}
-use Rattle.codec.specs.Reading.{baselineIn, rawIn, refusalOfNumber, refusalOfBytes, recordOfBytes}
+use Rattle.codec.specs.Reading.{baselineIn, rawIn, refusalsOfNumber, refusalsOfBytes, refusalOfBytes, recordOfBytes}
 use Rattle.codec.proofs.Fine.{found-fine}
 use Rattle.writing.specs.Writing.{writeNumber, refusalOfWrite, outputOf, Writes}
 use Rattle.writing.specs.Laws.{RoundTrips}
@@ -22,7 +23,7 @@ use Rattle.writing.proofs.WrittenBack.{bytes-back}
 module _ (r : Record) (out last : List ℕ) (a : WriteAnswer) (fine : refusalOf r ≡ 0) (room : recordLength ≤ length out) (w : Writes r out a last) where
   not-refused : refusalOfWrite r out ≡ 0
   unfolding refusalOfWrite
-  not-refused = rw (fine, le-ltb (length out) recordLength room)
+  not-refused = none-after-own r _ .1 (fine, rw (le-ltb (length out) recordLength room))
 
   done : writeNumber a ≡ 0
   done = w .answer ∙ not-refused
@@ -38,7 +39,7 @@ module _ (r : Record) (out last : List ℕ) (a : WriteAnswer) (fine : refusalOf 
   stored = w .left ∙ rw not-refused
 
 printed-fine : refusalOf printedBaseline ≡ 0
-unfolding refusalOfRead dateExists leapYear daysInMonth outsideLimits notZero withoutDisease wrongSize setBeyond
+unfolding refusalsOfRead dateExists leapYear daysInMonth outsideLimits notZero withoutDisease wrongSize setBeyond
 printed-fine = refl
 
 printed-bytes : bytesOf printedBaseline ≡ printedBytes
@@ -46,7 +47,7 @@ unfolding bytesOf recordNumber
 printed-bytes = refl
 
 printed-accepted : refusalOfBytes printedBytes ≡ 0
-unfolding refusalOfBytes bytesNumber refusalOfNumber rawIn baselineIn refusalOfRead dateExists leapYear daysInMonth outsideLimits notZero withoutDisease wrongSize setBeyond
+unfolding refusalsOfBytes bytesNumber refusalsOfNumber rawIn baselineIn refusalsOfRead dateExists leapYear daysInMonth outsideLimits notZero withoutDisease wrongSize setBeyond
 printed-accepted = refl
 
 printed-record : recordOfBytes printedBytes ≡ printedBaseline

@@ -2,51 +2,50 @@
 -- Assumes nothing.
 use mathlib.Core.Path.{_≡_, sym, _∙_, ap}
 use mathlib.Core.Bool.{false}
-use mathlib.Core.List.{List, _++_}
-use Prim.Native.Nat.{ℕ, suc, _≤_, _<_}
-use native.Mathlib.Omega.{arith}
+use mathlib.Core.List.{List, [], _∷_, _++_}
+use Prim.Native.Nat.{ℕ, _≤_, _<_}
+use lib.Dec.{ltb, eqb}
 use lib.ListN.{length, drop}
-use borrow.Author.Tests.{ne-eqb, lt-ltb, le-ltb}
+use borrow.Author.Tests.{lt-ltb, le-ltb}
+use Rattle.laws.specs.Choice.{pick}
+use Rattle.laws.specs.Refusals.{_when_, first}
 use Rattle.packing.specs.Layout.{pack, unpack, bytes}
 use Rattle.records.specs.Form.{dateOf, kindNumber, Five}
-use Rattle.records.specs.Refusals.{checkNumber, refusalOf}
+use Rattle.records.specs.Refusals.{ownNumber, checkNumber, refusalOf}
 use Rattle.records.specs.declared.Record.{Record}
 use Rattle.records.specs.declared.CheckAnswer.{CheckAnswer}
 use Rattle.records.specs.declared.CheckAnswer.the-variants as C
-use Rattle.records.proofs.Passed.{passes}
+use Rattle.records.specs.declared.OwnRefusal.{OwnRefusal}
+use Rattle.records.proofs.Passed.{own-not-0, passes, after-own}
 use Rattle.codec.specs.Bytes.{headLayout, bodyLayout, headFields, bodyFields, recordLength, bytesOf}
-use Rattle.writing.specs.Writing.{writeNumber, refusalOfWrite, outputOf, Writes}
-use Rattle.writing.specs.declared.WriteAnswer.{WriteAnswer}
+use Rattle.writing.specs.Writing.{refusalOfWrite, outputOf, Writes}
 use Rattle.writing.specs.declared.WriteAnswer.the-variants as W
 use Rattle.writing.proofs.Parts.{two-parts}
 
 module _ (r : Record) (out : List ℕ) (a : CheckAnswer) (f : Five r) (e : checkNumber a ≡ refusalOf r) where
-  pub writes-refused : (k : CheckAnswer) (x : WriteAnswer) (n : ℕ) → a ≡ k → checkNumber k ≡ suc n → writeNumber x ≡ suc n → Writes r out x out
-  unfolding refusalOfWrite outputOf
-  writes-refused k x n p c y =
-      let q : refusalOf r ≡ suc n = sym e ∙ ap checkNumber p ∙ c in
-      let z = ne-eqb (suc n) 0 (omega arith) in
-      record { answer = rw (q, z) y; left = rw (q, z, z); five = f }
+  -- 3 to 5 as checked, or else 6
+  checked-first : refusalOfWrite r out ≡ pick (eqb (checkNumber a) 0) (first (6 when ltb (length out) recordLength ∷ [])) (checkNumber a)
+  unfolding refusalOfWrite
+  checked-first = rw e (after-own r (6 when ltb (length out) recordLength ∷ []))
+
+  pub writes-refused : (own : OwnRefusal) → a ≡ C.Refused own → Writes r out (W.Refused own) out
+  unfolding outputOf
+  writes-refused own p =
+      let w : refusalOfWrite r out ≡ ownNumber own = checked-first ∙ rw (p, own-not-0 own) in
+      record { answer = sym w; left = rw (w, own-not-0 own); five = f }
 
   module _ (p : a ≡ C.Passed) where
-    passed : refusalOf r ≡ 0
-    passed = sym e ∙ ap checkNumber p
-
     pub writes-short : length out < recordLength → Writes r out W.ShortOutput out
-    unfolding refusalOfWrite outputOf
-    writes-short h = record {
-      answer = rw (passed, lt-ltb (length out) recordLength h);
-      left = rw (passed, lt-ltb (length out) recordLength h);
-      five = f;
-    }
+    unfolding outputOf
+    writes-short h =
+        let w : refusalOfWrite r out ≡ 6 = checked-first ∙ rw (p, lt-ltb (length out) recordLength h) in
+        record { answer = sym w; left = rw w; five = f }
 
     writes-stored : (last : List ℕ) → recordLength ≤ length out → last ≡ bytesOf r ++ drop recordLength out → Writes r out W.Done last
-    unfolding refusalOfWrite outputOf
-    writes-stored last h l = record {
-      answer = rw (passed, le-ltb (length out) recordLength h);
-      left = l ∙ rw (passed, le-ltb (length out) recordLength h);
-      five = f;
-    }
+    unfolding outputOf
+    writes-stored last h l =
+        let w : refusalOfWrite r out ≡ 0 = checked-first ∙ rw (p, le-ltb (length out) recordLength h) in
+        record { answer = sym w; left = l ∙ rw w; five = f }
 
 -- what is left in the output where both parts are stored
 pub writes-parts : (r : Record) (out last : List ℕ) (a : CheckAnswer) (head body : ℕ) → Five r → checkNumber a ≡ refusalOf r → a ≡ C.Passed →

@@ -2,29 +2,27 @@
 -- Assumes nothing.
 use mathlib.Core.Path.{_≡_}
 use Prim.Native.Nat.{ℕ}
-use mathlib.Core.Bool.{not}
-use mathlib.Core.List.{List, _++_}
+use mathlib.Core.List.{List, [], _∷_, _++_}
 use lib.Dec.{ltb, eqb}
 use lib.ListN.{length, drop}
 use Rattle.laws.specs.Choice.{pick}
+use Rattle.laws.specs.Refusals.{_when_, first}
 use Rattle.records.specs.Form.{Five}
-use Rattle.records.specs.Refusals.{refusalOf}
+use Rattle.records.specs.Refusals.{ownNumber, refusalsOf}
 use Rattle.records.specs.declared.Record.{Record}
 use Rattle.codec.specs.Bytes.{recordLength, bytesOf}
 use Rattle.writing.specs.declared.WriteAnswer.{WriteAnswer}
-use Rattle.writing.specs.declared.WriteAnswer.the-variants.{Done, NoSuchDate, OutsideLimits, NotZero, ShortOutput}
+use Rattle.writing.specs.declared.WriteAnswer.the-variants.{Done, Refused, ShortOutput}
 
 -- the number of each case in document 01; 0 where no refusal meets
 abbrev pub writeNumber : WriteAnswer → ℕ
 writeNumber Done = 0
-writeNumber NoSuchDate = 3
-writeNumber OutsideLimits = 4
-writeNumber NotZero = 5
+writeNumber (Refused own) = ownNumber own
 writeNumber ShortOutput = 6
 
 -- 3 to 5, then 6
 unfoldable pub refusalOfWrite : Record → List ℕ → ℕ
-refusalOfWrite r out = pick (not (eqb (refusalOf r) 0)) (refusalOf r) (pick (ltb (length out) recordLength) 6 0)
+refusalOfWrite r out = first (refusalsOf r ++ 6 when ltb (length out) recordLength ∷ [])
 
 -- the 11 bytes and what stood past them; as it was where refused
 unfoldable pub outputOf : Record → List ℕ → List ℕ

@@ -1,7 +1,7 @@
 -- `codec::answered` meets its contract: `search` finds what was answered.
 -- Assumes nothing.
 use borrow.Author.Needs.{needs}
-use Rattle.codec.proofs.Returns.{judged-no-date, judged-outside, judged-not-zero, judged-passed}
+use Rattle.codec.proofs.Returns.{judged-passed, judged-refused}
 use Rattle.codec.proofs.answered.Statement.{statement}
 use Rattle.codec.proofs.answered.Tie as tie
 
@@ -10,13 +10,7 @@ answered-spec =
     tie.close
     (tie.spec
     (λ c. search needs)
-    (λ c κs. search needs)
     (λ c. search needs)
     (λ c κs. search needs)
-    (λ c. search needs)
-    (λ c κs. search needs)
-    (λ c. search needs)
-    (λ c. λ w e f. search judged-no-date)
-    (λ c. λ w e f. search judged-outside)
-    (λ c. λ w e f. search judged-not-zero)
-    (λ c. λ w e f. search judged-passed))
+    (λ c. λ w e f. search judged-passed)
+    (λ c. λ w e f. search judged-refused))

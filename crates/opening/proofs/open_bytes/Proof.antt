@@ -1,7 +1,7 @@
 -- `opening::open_bytes` meets its contract.
 -- Assumes nothing.
 use borrow.Author.Needs.{needs}
-use Rattle.opening.proofs.Returns.{bytes-read, bytes-short, bytes-no-kind, bytes-no-date, bytes-outside, bytes-not-zero}
+use Rattle.opening.proofs.Returns.{bytes-read, bytes-short, bytes-no-kind, bytes-own}
 use Rattle.opening.proofs.open_bytes.Statement.{statement}
 use Rattle.opening.proofs.open_bytes.Tie as tie
 
@@ -18,13 +18,7 @@ open-bytes-spec =
     (λ c κs. search needs)
     (λ c. search needs)
     (λ c κs. search needs)
-    (λ c. search needs)
-    (λ c κs. search needs)
-    (λ c. search needs)
-    (λ c κs. search needs)
     (λ c. search bytes-read)
     (λ c. search bytes-short)
     (λ c. search bytes-no-kind)
-    (λ c. search bytes-no-date)
-    (λ c. search bytes-outside)
-    (λ c. search bytes-not-zero))
+    (λ c. search bytes-own))

@@ -1,7 +1,7 @@
 -- `opening::open_subject` meets its contract.
 -- Assumes nothing.
 use borrow.Author.Needs.{needs}
-use Rattle.opening.proofs.Returns.{opens-without-date, opens-outside, opens-not-zero, opens-passed}
+use Rattle.opening.proofs.Returns.{opens-refused, opens-passed}
 use Rattle.opening.proofs.open_subject.Statement.{statement}
 use Rattle.opening.proofs.open_subject.Tie as tie
 
@@ -14,11 +14,5 @@ open-subject-spec =
     (λ c κs. search needs)
     (λ c. search needs)
     (λ c κs. search needs)
-    (λ c. search needs)
-    (λ c κs. search needs)
-    (λ c. search needs)
-    (λ c κs. search needs)
-    (λ c. opens-without-date _ (record { sizes = search needs; marks = search needs }) _ (c .before .before .before .check .ensures) _ (c .before .enum-told .given .1) (c .refused .ensures))
-    (λ c. opens-outside _ (record { sizes = search needs; marks = search needs }) _ (c .before .before .before .check .ensures) _ (c .before .enum-told2 .given .1) (c .refused2 .ensures))
-    (λ c. opens-not-zero _ (record { sizes = search needs; marks = search needs }) _ (c .before .before .before .check .ensures) _ (c .before .enum-told3 .given .1) (c .refused3 .ensures))
-    (λ c. opens-passed _ (record { sizes = search needs; marks = search needs }) _ (c .before .before .before .check .ensures) _ (c .before .enum-told4 .given .1) (c .open-checked .ensures)))
+    (λ c. opens-refused _ (record { sizes = search needs; marks = search needs }) _ (c .before .before .before .before .check .ensures) _ _ (c .before .before .own .given .1) (c .refused .ensures))
+    (λ c. opens-passed _ (record { sizes = search needs; marks = search needs }) _ (c .before .before .before .check .ensures) _ (c .before .enum-told .given .1) (c .open-checked .ensures)))

@@ -1,6 +1,6 @@
 -- `writing::write` meets its contract.
 -- Assumes nothing.
-use mathlib.Core.Path.{refl, ap, _∙_, sym}
+use mathlib.Core.Path.{ap, _∙_, sym}
 use borrow.Author.Needs.{needs}
 use Rattle.records.specs.Refusals.{checkNumber}
 use Rattle.records.proofs.Passed.{passes}
@@ -15,14 +15,10 @@ write-spec =
     (λ c κs. search needs)
     (λ c. search needs)
     (λ c. search needs)
-    (λ c. search needs)
-    (λ c. search needs)
-    (λ c. writes-short _ _ _ (record { sizes = search needs; marks = search needs }) (c .before .before .before .check .ensures) (c .before .enum-told4 .given .1) (c .if1 .taken))
-    (λ c κs. passes _ _ _ (sym (c .before .before .before .before .before .check .ensures) ∙ ap checkNumber (c .before .before .before .enum-told4 .given .1)) .date)
-    (λ c κs. let p = passes _ _ _ (sym (c .before .before .before .before .before .before .check .ensures) ∙ ap checkNumber (c .before .before .before .before .enum-told4 .given .1)) in (p .limits, p .zeros))
+    (λ c. writes-short _ _ _ (record { sizes = search needs; marks = search needs }) (c .before .before .before .check .ensures) (c .before .enum-told .given .1) (c .if1 .taken))
+    (λ c κs. passes _ _ _ (sym (c .before .before .before .before .before .check .ensures) ∙ ap checkNumber (c .before .before .before .enum-told .given .1)) .date)
+    (λ c κs. let p = passes _ _ _ (sym (c .before .before .before .before .before .before .check .ensures) ∙ ap checkNumber (c .before .before .before .before .enum-told .given .1)) in (p .limits, p .zeros))
     (λ c κs. search needs)
-    (λ c. writes-refused _ _ _ (record { sizes = search needs; marks = search needs }) (c .before .before .check .ensures) _ _ 2 (c .enum-told .given .1) refl refl)
-    (λ c. writes-refused _ _ _ (record { sizes = search needs; marks = search needs }) (c .before .before .check .ensures) _ _ 3 (c .enum-told2 .given .1) refl refl)
-    (λ c. writes-refused _ _ _ (record { sizes = search needs; marks = search needs }) (c .before .before .check .ensures) _ _ 4 (c .enum-told3 .given .1) refl refl)
+    (λ c. writes-refused _ _ _ (record { sizes = search needs; marks = search needs }) (c .before .before .before .check .ensures) _ (c .before .own .given .1))
     (λ c. search needs)
-    (λ c. let b = c .before .before .before .before in let k = b .before .before .before .before .before in writes-parts _ _ _ _ _ _ (record { sizes = search needs; marks = search needs }) (k .before .before .check .ensures) (k .enum-told4 .given .1) (b .before .before .before .before .if1 .left) (b .before .head-number .ensures) (b .body-number .ensures) (c .before .before .store .ensures)))
+    (λ c. let b = c .before .before .before .before in let k = b .before .before .before .before .before in writes-parts _ _ _ _ _ _ (record { sizes = search needs; marks = search needs }) (k .before .before .check .ensures) (k .enum-told .given .1) (b .before .before .before .before .if1 .left) (b .before .head-number .ensures) (b .body-number .ensures) (c .before .before .store .ensures)))

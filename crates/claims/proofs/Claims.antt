@@ -1,0 +1,42 @@
+-- Each claim, from where it is proved.
+-- Assumes nothing.
+use Rattle.laws.proofs.Refusals.{first-laws}
+use Rattle.dates.proofs.Calendar.{calendar-laws}
+use Rattle.writing.proofs.RoundTrip.{round-trips}
+use Rattle.criteria.proofs.Examples.{grid-rows}
+use Rattle.criteria.proofs.Laws.{overall-laws, nadir-laws, change-laws}
+use Rattle.endpoints.proofs.Laws.{list-laws, adding-laws, call-laws}
+use Rattle.endpoints.proofs.Exact.{every-mark-exact}
+use Rattle.endpoints.proofs.InOrder.{every-mark-exact-in-order}
+use Rattle.endpoints.proofs.AtTheEdges.{examples-hold}
+use Rattle.held.proofs.Within.{range-laws}
+use Rattle.outcome.proofs.Demand.{demand3}
+use Rattle.outcome.proofs.Within.{calls-in-range}
+use Rattle.file.proofs.Singly.{as-singly}
+use Rattle.text.proofs.Examples.{lines-at-the-edges}
+use Rattle.text.proofs.Lengths.{lengths}
+use Rattle.claims.specs.Claims.{Claims}
+
+pub claims : Claims
+claims =
+    record {
+      calendar = calendar-laws;
+      roundTrips = round-trips;
+      grid = grid-rows;
+      overall = overall-laws;
+      nadir = nadir-laws;
+      lists = list-laws;
+      marks = every-mark-exact;
+      marksInOrder = every-mark-exact-in-order;
+      demand3 = demand3;
+      calls = call-laws;
+      change = change-laws;
+      file = as-singly;
+      lines = lines-at-the-edges;
+      lengths = lengths;
+      first = first-laws;
+      adding = adding-laws;
+      range = range-laws;
+      inRange = calls-in-range;
+      examples = examples-hold .0;
+    }

@@ -1,0 +1,46 @@
+-- What Weprane claims, in the order of document 01: one record whose fields are the published theorems. What a call does is claimed by its own `ensures`;
+-- a theorem that is not here is not claimed. Proved in proofs/Claims.antt.
+-- Assumes nothing.
+use Rattle.laws.specs.Refusals.{FirstLaws}
+use Rattle.dates.specs.Laws.{CalendarLaws}
+use Rattle.writing.specs.Laws.{RoundTrips}
+use Rattle.criteria.specs.Examples.{GridRows}
+use Rattle.criteria.specs.Laws.{OverallLaws, NadirLaws, ChangeLaws}
+use Rattle.endpoints.specs.Laws.{ListLaws, AddingLaws, CallLaws}
+use Rattle.endpoints.specs.Lasting.{EveryMarkExact, EveryMarkExactInOrder}
+use Rattle.endpoints.specs.Examples.{starred, Hold}
+use Rattle.held.specs.Laws.{RangeLaws}
+use Rattle.outcome.specs.Demand3.{Demand3}
+use Rattle.outcome.specs.Laws.{CallsInRange}
+use Rattle.file.specs.Singly.{AsSingly}
+use Rattle.text.specs.Examples.{LinesAtTheEdges}
+use Rattle.text.specs.Laws.{Lengths}
+
+pub record Claims : Type 1 where
+  -- "Dates and records": day numbers; what is written is read, and what is read is written, byte for byte
+  pub calendar : CalendarLaws
+  pub roundTrips : RoundTrips
+  -- "Visit responses": the grid as printed; PD, and a missing baseline; what earlier visits leave is the nadir
+  pub grid : GridRows
+  pub overall : OverallLaws
+  pub nadir : NadirLaws
+  -- "Dates and records" and "Outcome": lawful lists and their courses
+  pub lists : ListLaws
+  -- "Settled": each mark is true exactly when no lawful run of further records changes its part, newest first and in the order recorded
+  pub marks : EveryMarkExact
+  pub marksInOrder : EveryMarkExactInOrder
+  -- demand 3, over a whole list of calls, and the records that such a list accepts
+  pub demand3 : Demand3
+  pub calls : CallLaws
+  -- "Change in size, file and listing": rounding; a file is judged as its records are one by one; the printed listing, and how long one can be
+  pub change : ChangeLaws
+  pub file : AsSingly
+  pub lines : LinesAtTheEdges
+  pub lengths : Lengths
+  -- "Where a call stops": the first refusal of a list; 8 to 11 and lawful lists; 12, and what it keeps
+  pub first : FirstLaws
+  pub adding : AddingLaws
+  pub range : RangeLaws
+  pub inRange : CallsInRange
+  -- "Examples at the edges": the starred ones, as one list
+  pub examples : Hold starred
