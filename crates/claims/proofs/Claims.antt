@@ -10,7 +10,7 @@ use Rattle.endpoints.proofs.Exact.{every-mark-exact}
 use Rattle.endpoints.proofs.InOrder.{every-mark-exact-in-order}
 use Rattle.endpoints.proofs.AtTheEdges.{examples-hold}
 use Rattle.held.proofs.Within.{range-laws}
-use Rattle.outcome.proofs.Demand.{demand3}
+use Rattle.outcome.proofs.Demand.{demand3, held-after-calls}
 use Rattle.outcome.proofs.Within.{calls-in-range}
 use Rattle.file.proofs.Singly.{as-singly}
 use Rattle.text.proofs.Examples.{lines-at-the-edges}
@@ -29,6 +29,7 @@ claims =
       marks = every-mark-exact;
       marksInOrder = every-mark-exact-in-order;
       demand3 = demand3;
+      held = held-after-calls;
       calls = call-laws;
       change = change-laws;
       file = as-singly;

@@ -11,6 +11,7 @@ use Rattle.endpoints.specs.Lasting.{EveryMarkExact, EveryMarkExactInOrder}
 use Rattle.endpoints.specs.Examples.{starred, Hold}
 use Rattle.held.specs.Laws.{RangeLaws}
 use Rattle.outcome.specs.Demand3.{Demand3}
+use Rattle.outcome.specs.HeldAfter.{HeldAfterCalls}
 use Rattle.outcome.specs.Laws.{CallsInRange}
 use Rattle.file.specs.Singly.{AsSingly}
 use Rattle.text.specs.Examples.{LinesAtTheEdges}
@@ -29,8 +30,9 @@ pub record Claims : Type 1 where
   -- "Settled": each mark is true exactly when no lawful run of further records changes its part, newest first and in the order recorded
   pub marks : EveryMarkExact
   pub marksInOrder : EveryMarkExactInOrder
-  -- demand 3, over a whole list of calls, and the records that such a list accepts
+  -- demand 3, over a whole list of calls; what is held after one, and the records that it accepts
   pub demand3 : Demand3
+  pub held : HeldAfterCalls
   pub calls : CallLaws
   -- "Change in size, file and listing": rounding; a file is judged as its records are one by one; the printed listing, and how long one can be
   pub change : ChangeLaws

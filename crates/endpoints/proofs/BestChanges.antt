@@ -10,7 +10,7 @@ use Rattle.laws.specs.Choice.{both, either, pick}
 use Rattle.laws.proofs.Tests.{never}
 use Rattle.criteria.specs.Words.{Word, CR, PR, SD, PD, NE, NA, NN}
 use Rattle.endpoints.specs.Values.{Day, none, on, isRecorded, _orElse_, orDay1, Pfs, PfsWord, Duration, noDuration, forDays, exists}
-use Rattle.endpoints.specs.Course.{Judged, visited, Course, latestIn, deathIn, therapyIn, progression, countingClosed, counting}
+use Rattle.endpoints.specs.Course.{Judged, visited, Course, latestIn, deathIn, treated, progression, countingClosed, counting}
 use Rattle.endpoints.specs.Pfs.{pfs}
 use Rattle.endpoints.specs.Best.{isCR, isResponse, confirmDays, completeBefore, confirmedCR, responseBefore, confirmedResponse, best, firstResponse, durationOf, duration}
 use Rattle.endpoints.proofs.Behind.{recorded-on, from-day-1-in}
@@ -78,7 +78,7 @@ first-keeps c j first q = go (countingClosed c)
     go false = rw q
 
 module _ (c : Course) (none-yet : progression c ≡ none) where
-  module _ (untreated : therapyIn c ≡ false) where
+  module _ (untreated : treated c ≡ false) where
     two-more-CR : best (twoMore c) ≡ CR
     two-more-CR = confirmed-best (twoMore c) (rw (untreated, none-yet, le-leb (suc (latestIn c) + confirmDays) (suc (latestIn c) + confirmDays) (omega arith)))
 

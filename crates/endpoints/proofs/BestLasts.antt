@@ -11,7 +11,7 @@ use Rattle.criteria.specs.Words.{Word, CR, NE}
 use Rattle.endpoints.specs.Values.{Day, none, on, isRecorded, _orElse_}
 use Rattle.endpoints.specs.StudyRecords.{Baseline}
 use Rattle.endpoints.specs.Lawful.{Past}
-use Rattle.endpoints.specs.Course.{Judged, Occurrence, visited, therapyOn, deathOn, Course, course, deathIn, therapyIn, visitsIn, firstPD, progression, countingClosed, counting}
+use Rattle.endpoints.specs.Course.{Judged, Occurrence, visited, therapyOn, deathOn, Course, course, deathIn, treated, visitsIn, firstPD, progression, countingClosed, counting}
 use Rattle.endpoints.specs.Pfs.{pfs}
 use Rattle.endpoints.specs.Best.{isCR, isResponse, completeBefore, confirmedCR, confirmedResponse, stable, bestOf, best, firstResponse, durationOf, duration}
 use Rattle.endpoints.proofs.Behind.{recorded-keeps, Follows, lasts-by, Unchanged}
@@ -52,7 +52,7 @@ one-more-NE false j e js = (rw e, rw e, rw e, rw (e, orElse-none (firstPD js)), 
 
 module _ (c : Course) where
   counting-closed : (e : Occurrence) → countingClosed c ≡ true → countingClosed (e ∷ c) ≡ true
-  counting-closed (visited j) q = go (therapyIn c) (progression c) _ q
+  counting-closed (visited j) q = go (treated c) (progression c) _ q
     where
       go : (t : Bool) (x y : Day) → either t (isRecorded x) ≡ true → either t (isRecorded (x orElse y)) ≡ true
       go true x y q = refl
@@ -130,7 +130,7 @@ pub data DurationOver (assessed : Bool) (c : Course) : Type 0 where
 module _ {assessed : Bool} (c : Course) where
   -- where PFS lasts no evaluable visit is to be counted
   pfs-counting : PfsOver assessed c → CountingOver assessed c
-  pfs-counting (progressed q) = closed (either-right (therapyIn c) (isRecorded (progression c)) q)
+  pfs-counting (progressed q) = closed (either-right (treated c) (isRecorded (progression c)) q)
   pfs-counting (dead q) = afterDeath q
   pfs-counting (late m h) = missing m
 

@@ -11,7 +11,7 @@ use Rattle.laws.proofs.Tests.{never, either-with-true}
 use Rattle.endpoints.specs.Values.{none, isRecorded, exists}
 use Rattle.endpoints.specs.StudyRecords.{Baseline, baseline, fieldsPass}
 use Rattle.endpoints.specs.Lawful.{Past, lawfulBehind}
-use Rattle.endpoints.specs.Course.{Course, course, latestIn, deathIn, therapyIn, progression}
+use Rattle.endpoints.specs.Course.{Course, course, latestIn, deathIn, treated, progression}
 use Rattle.endpoints.specs.Pfs.{earlyDeath, pfs}
 use Rattle.endpoints.specs.Best.{isCR, isResponse, best, duration}
 use Rattle.endpoints.specs.Settled.{settledFrom, pfsSettledBy, bestSettledBy, durationSettledBy, pfsSettled, bestSettled, durationSettled}
@@ -58,19 +58,19 @@ module _ (assessed : Bool) (c : Course) {A : Type 0} where
 
   -- best response's mark likewise
   best-mark : (BestOver assessed c → A) →
-      (deathIn c ≡ none → assessed ≡ true → therapyIn c ≡ false → progression c ≡ none → isCR (best c) ≡ false → A → ⊥) →
+      (deathIn c ≡ none → assessed ≡ true → treated c ≡ false → progression c ≡ none → isCR (best c) ≡ false → A → ⊥) →
       (bestSettled assessed c ≡ true) ↔ A
   unfolding bestSettled bestSettledBy
   best-mark over open-still =
-      go (isRecorded (progression c)) refl (therapyIn c) refl (isRecorded (deathIn c)) refl assessed refl (isCR (best c)) refl
+      go (isRecorded (progression c)) refl (treated c) refl (isRecorded (deathIn c)) refl assessed refl (isCR (best c)) refl
     where
-      is : (g t d a : Bool) → isRecorded (progression c) ≡ g → therapyIn c ≡ t → isRecorded (deathIn c) ≡ d → assessed ≡ a →
+      is : (g t d a : Bool) → isRecorded (progression c) ≡ g → treated c ≡ t → isRecorded (deathIn c) ≡ d → assessed ≡ a →
           bestSettled assessed c ≡ bestSettledBy g t d a (best c)
       is g t d a eg et ed ea = cc
 
-      go : (g : Bool) → isRecorded (progression c) ≡ g → (t : Bool) → therapyIn c ≡ t → (d : Bool) → isRecorded (deathIn c) ≡ d →
+      go : (g : Bool) → isRecorded (progression c) ≡ g → (t : Bool) → treated c ≡ t → (d : Bool) → isRecorded (deathIn c) ≡ d →
           (a : Bool) → assessed ≡ a → (x : Bool) → isCR (best c) ≡ x → (bestSettled assessed c ≡ true) ↔ A
-      go true eg t et d ed a ea x ex = holds (is true t d a eg et ed ea) (over (counted (closed (rw eg (either-with-true (therapyIn c))))))
+      go true eg t et d ed a ea x ex = holds (is true t d a eg et ed ea) (over (counted (closed (rw eg (either-with-true (treated c))))))
       go false eg true et d ed a ea x ex = holds (is false true d a eg et ed ea) (over (counted (closed (rw et))))
       go false eg false et true ed a ea x ex = holds (is false false true a eg et ed ea) (over (counted (afterDeath ed)))
       go false eg false et false ed false ea x ex = holds (is false false false false eg et ed ea) (over (counted (missing ea)))

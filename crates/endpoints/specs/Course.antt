@@ -26,10 +26,11 @@ pub record Judged : Type 0 where
   pub day : ℕ
   pub answer : Word
 
--- the declared struct
+-- of the declared struct
 abbrev pub judgedValues : JudgedVisit → Judged
 judgedValues j = record { day = j .day .0; answer = overallWord (j .answer) }
 
+-- what is recorded behind a baseline
 pub data Occurrence : Type 0 where
   visited : Judged → Occurrence
   therapyOn : ℕ → Occurrence
@@ -45,7 +46,7 @@ answerAt b p v = visitOverall (disease b) (visitsOf p) v
 abbrev pub judge : Baseline → Past → ℕ → Visit → Judged
 judge b p d v = record { day = d; answer = answerAt b p v }
 
--- the visits are judged here, and nowhere behind it
+-- each visit is judged once, here, after those before it
 abbrev pub course : Baseline → Past → Course
 course b [] = []
 course b (baseline x ∷ p) = course b p
@@ -69,11 +70,11 @@ deathIn (visited j ∷ c) = deathIn c
 deathIn (therapyOn d ∷ c) = deathIn c
 deathIn (deathOn d ∷ c) = deathIn c orElse on d
 
-abbrev pub therapyIn : Course → Bool
-therapyIn [] = false
-therapyIn (visited j ∷ c) = therapyIn c
-therapyIn (therapyOn d ∷ c) = true
-therapyIn (deathOn d ∷ c) = therapyIn c
+abbrev pub treated : Course → Bool
+treated [] = false
+treated (visited j ∷ c) = treated c
+treated (therapyOn d ∷ c) = true
+treated (deathOn d ∷ c) = treated c
 
 abbrev pub visitsIn : Course → List Judged
 visitsIn [] = []
@@ -91,7 +92,7 @@ progression c = firstPD (visitsIn c)
 
 -- no further visit counts: a therapy or a progression is recorded
 abbrev pub countingClosed : Course → Bool
-countingClosed c = either (therapyIn c) (isRecorded (progression c))
+countingClosed c = either (treated c) (isRecorded (progression c))
 
 -- counting visits, a term of document 01: those recorded before the first therapy, up to and with progression
 abbrev pub counting : Course → List Judged

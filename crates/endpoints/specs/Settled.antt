@@ -8,7 +8,7 @@ use Rattle.criteria.specs.Words.{Word}
 use Rattle.endpoints.specs.Values.{isRecorded, Duration, exists, Outcome}
 use Rattle.endpoints.specs.StudyRecords.{Baseline}
 use Rattle.endpoints.specs.Lawful.{Past}
-use Rattle.endpoints.specs.Course.{Course, course, latestIn, deathIn, therapyIn, progression}
+use Rattle.endpoints.specs.Course.{Course, course, latestIn, deathIn, treated, progression}
 use Rattle.endpoints.specs.Pfs.{earlyDeath, pfs}
 use Rattle.endpoints.specs.Best.{isCR, best, duration}
 
@@ -33,7 +33,7 @@ unfoldable pub pfsSettled : Bool → Course → Bool
 pfsSettled assessed c = pfsSettledBy assessed (isRecorded (progression c)) (isRecorded (deathIn c)) (latestIn c)
 
 unfoldable pub bestSettled : Bool → Course → Bool
-bestSettled assessed c = bestSettledBy (isRecorded (progression c)) (therapyIn c) (isRecorded (deathIn c)) assessed (best c)
+bestSettled assessed c = bestSettledBy (isRecorded (progression c)) (treated c) (isRecorded (deathIn c)) assessed (best c)
 
 unfoldable pub durationSettled : Bool → Course → Bool
 durationSettled assessed c = durationSettledBy (duration c) (pfsSettled assessed c) (bestSettled assessed c)

@@ -65,24 +65,24 @@ module _ (e : Enrolment) (a : Bool) (p : a ≡ dateExists (e .randomisation)) wh
   unfolding enrolmentInRange
   without-date h = h ∙ rw (← p, h)
 
-  pub many-targets : a ≡ true → mostTargets < e .baseline .count → leb (e .baseline .count) mostTargets ≡ enrolmentInRange e
+  pub many-targets : a ≡ true → mostTargets < e .disease .count → leb (e .disease .count) mostTargets ≡ enrolmentInRange e
   unfolding enrolmentInRange
-  many-targets h k = rw (← p, h, lt-leb (e .baseline .count) mostTargets k)
+  many-targets h k = rw (← p, h, lt-leb (e .disease .count) mostTargets k)
 
-  pub by-sum : a ≡ true → e .baseline .count ≤ mostTargets → leb (e .baseline .sum) largestSum ≡ enrolmentInRange e
+  pub by-sum : a ≡ true → e .disease .count ≤ mostTargets → leb (e .disease .sum) largestSum ≡ enrolmentInRange e
   unfolding enrolmentInRange
-  by-sum h k = rw (← p, h, le-leb (e .baseline .count) mostTargets k)
+  by-sum h k = rw (← p, h, le-leb (e .disease .count) mostTargets k)
 
 pub large-nadir : (f : FollowUp) → largestSum < f .earlier .nadir → leb (f .earlier .nadir) largestSum ≡ followUpInRange f
 unfolding followUpInRange
 large-nadir f h = rw (lt-leb (f .earlier .nadir) largestSum h)
 
-module _ (f : FollowUp) (n : f .earlier .nadir ≤ largestSum) (a : Bool) (p : a ≡ dayInRange (f .latest .0)) where
+module _ (f : FollowUp) (n : f .earlier .nadir ≤ largestSum) (a : Bool) (p : a ≡ dayInRange (f .latestday .0)) where
   pub latest-outside : a ≡ false → a ≡ followUpInRange f
   unfolding followUpInRange
   latest-outside h = h ∙ rw (le-leb (f .earlier .nadir) largestSum n, ← p, h)
 
-  module _ (h : a ≡ true) (b : Bool) (q : b ≡ maybeInRange (f .death)) where
+  module _ (h : a ≡ true) (b : Bool) (q : b ≡ maybeInRange (f .deathday)) where
     pub death-outside : b ≡ false → b ≡ followUpInRange f
     unfolding followUpInRange
     death-outside k = k ∙ rw (le-leb (f .earlier .nadir) largestSum n, ← p, h, ← q, k)

@@ -45,23 +45,23 @@ pub enrolment-within : (e : Enrolment) → enrolmentInRange e ≡ true → Enrol
 unfolding enrolmentInRange
 enrolment-within e h =
     let date = both-true (dateExists (e .randomisation)) _ h in
-    let count = both-true (leb (e .baseline .count) mostTargets) _ (date .1) in
-    record { randomisation = date .0; count = leb-true (e .baseline .count) mostTargets (count .0); sum = leb-true (e .baseline .sum) largestSum (count .1) }
+    let count = both-true (leb (e .disease .count) mostTargets) _ (date .1) in
+    record { randomisation = date .0; count = leb-true (e .disease .count) mostTargets (count .0); sum = leb-true (e .disease .sum) largestSum (count .1) }
 
 pub follow-up-within : (f : FollowUp) → followUpInRange f ≡ true → FollowUpWithin f
 unfolding followUpInRange
 follow-up-within f e =
     let nadir = both-true (leb (f .earlier .nadir) largestSum) _ e in
-    let latest = both-true (dayInRange (f .latest .0)) _ (nadir .1) in
-    let death = both-true (maybeInRange (f .death)) _ (latest .1) in
+    let latest = both-true (dayInRange (f .latestday .0)) _ (nadir .1) in
+    let death = both-true (maybeInRange (f .deathday)) _ (latest .1) in
     let days = both-true (eventInRange (f .event)) _ (death .1) in
     let previous = both-true (dayInRange (f .event .lastvisit .0)) _ (days .0) in
     let rest = both-true (maybeInRange (f .event .progression)) _ (previous .1) in
     let counted = both-true (maybeInRange (f .counted .firstresponse)) _ (days .1) in
     record {
       nadir = leb-true (f .earlier .nadir) largestSum (nadir .0);
-      latest = within (f .latest .0) (latest .0);
-      death = absent-or-within (f .death) (death .0);
+      latestday = within (f .latestday .0) (latest .0);
+      deathday = absent-or-within (f .deathday) (death .0);
       event =
           record {
             lastvisit = within (f .event .lastvisit .0) (previous .0);
@@ -79,15 +79,15 @@ subject-within s e =
 
 enrolment-in-range : (e : Enrolment) → EnrolmentWithin e → enrolmentInRange e ≡ true
 unfolding enrolmentInRange
-enrolment-in-range e w = rw (w .randomisation, le-leb (e .baseline .count) mostTargets (w .count), le-leb (e .baseline .sum) largestSum (w .sum))
+enrolment-in-range e w = rw (w .randomisation, le-leb (e .disease .count) mostTargets (w .count), le-leb (e .disease .sum) largestSum (w .sum))
 
 follow-up-in-range : (f : FollowUp) → FollowUpWithin f → followUpInRange f ≡ true
 unfolding followUpInRange
 follow-up-in-range f w =
     rw (
       le-leb (f .earlier .nadir) largestSum (w .nadir),
-      day-in-range (f .latest .0) (w .latest),
-      maybe-in-range (f .death) (w .death),
+      day-in-range (f .latestday .0) (w .latestday),
+      maybe-in-range (f .deathday) (w .deathday),
       day-in-range (f .event .lastvisit .0) (w .event .lastvisit),
       maybe-in-range (f .event .progression) (w .event .progression),
       maybe-in-range (f .event .lastevaluable) (w .event .lastevaluable),

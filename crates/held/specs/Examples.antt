@@ -55,8 +55,8 @@ disease assessed count sum = record { assessed = assessed; count = count; nodes 
 abbrev pub subjectWith : Date → Bool → BaselineDisease → ℕ → ℕ → Bool → MaybeDay → EventDays → CountingVisits → Subject
 subjectWith randomisation nontarget baseline nadir latest therapy death event counted =
     record {
-      enrolment = record { randomisation = randomisation; nontarget = nontarget; baseline = baseline };
-      followup = record { earlier = record { nadir = nadir }; latest = day latest; therapy = therapy; death = death; event = event; counted = counted };
+      enrolment = record { randomisation = randomisation; nontarget = nontarget; disease = baseline };
+      followup = record { earlier = record { nadir = nadir }; latestday = day latest; treated = therapy; deathday = death; event = event; counted = counted };
     }
 
 -- the subject of the printed example, by nadir, latest day, therapy, death, and what visits left

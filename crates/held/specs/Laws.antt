@@ -32,13 +32,13 @@ pub record CountedWithin (c : CountingVisits) : Type 0 where
 
 pub record EnrolmentWithin (e : Enrolment) : Type 0 where
   pub randomisation : dateExists (e .randomisation) ≡ true
-  pub count : e .baseline .count ≤ 5
-  pub sum : e .baseline .sum ≤ 2500
+  pub count : e .disease .count ≤ 5
+  pub sum : e .disease .sum ≤ 2500
 
 pub record FollowUpWithin (f : FollowUp) : Type 0 where
   pub nadir : f .earlier .nadir ≤ 2500
-  pub latest : Within (f .latest .0)
-  pub death : AbsentOrWithin (f .death)
+  pub latestday : Within (f .latestday .0)
+  pub deathday : AbsentOrWithin (f .deathday)
   pub event : EventWithin (f .event)
   pub counted : CountedWithin (f .counted)
 

@@ -38,14 +38,14 @@ countedInRange c = both (maybeInRange (c .firstresponse)) (maybeInRange (c .crst
 
 -- the randomisation date, the target count and the baseline sum
 unfoldable pub enrolmentInRange : Enrolment → Bool
-enrolmentInRange e = both (dateExists (e .randomisation)) (both (leb (e .baseline .count) mostTargets) (leb (e .baseline .sum) largestSum))
+enrolmentInRange e = both (dateExists (e .randomisation)) (both (leb (e .disease .count) mostTargets) (leb (e .disease .sum) largestSum))
 
 -- the nadir and the days
 unfoldable pub followUpInRange : FollowUp → Bool
 followUpInRange f =
     both (leb (f .earlier .nadir) largestSum)
-    (both (dayInRange (f .latest .0))
-    (both (maybeInRange (f .death))
+    (both (dayInRange (f .latestday .0))
+    (both (maybeInRange (f .deathday))
     (both (eventInRange (f .event))
     (countedInRange (f .counted)))))
 

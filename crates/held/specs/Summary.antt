@@ -1,5 +1,5 @@
 -- Document 01, "Settled": what the held subject holds. After a baseline and the records behind it, newest first, each field is what the definition of its
--- name gives; that opening and adding keep this is proved in `opening` and `placing`.
+-- name gives. That this holds after any list of calls is a theorem, `HeldAfterCalls` (outcome/specs/HeldAfter).
 -- Assumes nothing.
 use mathlib.Core.List.{List, [], _∷_}
 use Rattle.laws.specs.Choice.{pick}
@@ -8,7 +8,7 @@ use Rattle.criteria.specs.Nadir.{leftBy}
 use Rattle.endpoints.specs.Values.{Day, none, on, isRecorded, _orElse_}
 use Rattle.endpoints.specs.StudyRecords.{Baseline, disease}
 use Rattle.endpoints.specs.Lawful.{Past, latestDay, deathDay}
-use Rattle.endpoints.specs.Course.{visitsOf, Judged, course, therapyIn, visitsIn, firstPD, counting}
+use Rattle.endpoints.specs.Course.{visitsOf, Judged, course, treated, visitsIn, firstPD, counting}
 use Rattle.endpoints.specs.Pfs.{beforeEvent, lastVisit, lastEvaluable}
 use Rattle.endpoints.specs.Best.{isCR, mayStandBetween, confirmedCR, confirmedResponse, stable, bestOf, firstResponse}
 use Rattle.held.specs.declared.EventDays.{EventDays}
@@ -43,13 +43,13 @@ countedOf js =
 unfoldable pub summary : Date → Baseline → Past → Subject
 summary randomisation b p =
     record {
-      enrolment = record { randomisation = randomisation; nontarget = b .nontarget; baseline = disease b };
+      enrolment = record { randomisation = randomisation; nontarget = b .nontarget; disease = disease b };
       followup =
           record {
             earlier = leftBy (disease b) (visitsOf p);
-            latest = at (latestDay p);
-            therapy = therapyIn (course b p);
-            death = maybe (deathDay p);
+            latestday = at (latestDay p);
+            treated = treated (course b p);
+            deathday = maybe (deathDay p);
             event = eventOf (visitsIn (course b p));
             counted = countedOf (counting (course b p));
           };

@@ -40,16 +40,17 @@ pub struct Enrolment {
     pub randomisation: Date,
     // Has non-target lesions.
     pub nontarget: bool,
-    pub baseline: BaselineDisease,
+    pub disease: BaselineDisease,
 }
 
 // What additions move.
 pub struct FollowUp {
     pub earlier: Earlier,
     // The day of the last record, or day 1.
-    pub latest: StudyDay,
-    pub therapy: bool,
-    pub death: MaybeDay,
+    pub latestday: StudyDay,
+    // A therapy is recorded.
+    pub treated: bool,
+    pub deathday: MaybeDay,
     pub event: EventDays,
     pub counted: CountingVisits,
 }

@@ -53,16 +53,16 @@ pub fn enrolment_in_range(e: Enrolment) -> bool
     ensures { λ r. ⌜ r ≡ enrolmentInRange e ⌝ }
 {
     dates::date_exists(e.randomisation)
-        && (e.baseline.count <= MOST_TARGETS && e.baseline.sum <= LARGEST_SUM)
+        && (e.disease.count <= MOST_TARGETS && e.disease.sum <= LARGEST_SUM)
 }
 
 pub fn followup_in_range(f: FollowUp) -> bool
     ensures { λ r. ⌜ r ≡ followUpInRange f ⌝ }
 {
-    let death = f.death;
+    let death = f.deathday;
     let event = f.event;
     let counted = f.counted;
     f.earlier.nadir <= LARGEST_SUM
-        && (day_in_range(f.latest)
+        && (day_in_range(f.latestday)
             && (maybe_in_range(death) && (event_in_range(event) && counted_in_range(counted))))
 }

@@ -45,9 +45,9 @@ pub blank-made : (e : EventDays) (c : CountingVisits) → e ≡ noVisits (record
           record {
             randomisation = ymd 0 0 0;
             nontarget = false;
-            baseline = record { assessed = false; count = 0; nodes = false ∷ false ∷ false ∷ false ∷ false ∷ []; sum = 0 };
+            disease = record { assessed = false; count = 0; nodes = false ∷ false ∷ false ∷ false ∷ false ∷ []; sum = 0 };
           };
-      followup = record { earlier = record { nadir = 0 }; latest = record { 0 = 0 }; therapy = false; death = M.Absent; event = e; counted = c };
+      followup = record { earlier = record { nadir = 0 }; latestday = record { 0 = 0 }; treated = false; deathday = M.Absent; event = e; counted = c };
     }
     ≡ blank
 unfolding blank
@@ -56,8 +56,8 @@ blank-made e c p q = rw (p, q)
 pub first-made : (b : BaselineEntry) (nodes : List Bool) (sizes : List ℕ) (a : BaselineAnswer) (e : EventDays) (c : CountingVisits) →
     JudgesBaseline b nodes sizes a → e ≡ noVisits (record { 0 = 1 }) → c ≡ nothingCounted →
     record {
-      enrolment = record { randomisation = b .date; nontarget = b .nontarget; baseline = a .disease };
-      followup = record { earlier = a .after; latest = record { 0 = 1 }; therapy = false; death = M.Absent; event = e; counted = c };
+      enrolment = record { randomisation = b .date; nontarget = b .nontarget; disease = a .disease };
+      followup = record { earlier = a .after; latestday = record { 0 = 1 }; treated = false; deathday = M.Absent; event = e; counted = c };
     }
     ≡ firstSubject b nodes sizes
 unfolding firstSubject

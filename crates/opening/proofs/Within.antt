@@ -40,8 +40,8 @@ opening-within b nodes sizes date count small =
       followup =
           record {
             nadir = sum;
-            latest = (omega arith, omega arith);
-            death = tt;
+            latestday = (omega arith, omega arith);
+            deathday = tt;
             event = record { lastvisit = (omega arith, omega arith); progression = tt; lastevaluable = tt };
             counted = record { firstresponse = tt; crstart = tt };
           };

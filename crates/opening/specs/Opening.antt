@@ -39,13 +39,13 @@ nothingCounted = record { firstresponse = M.Absent; crstart = M.Absent; best = B
 unfoldable pub firstSubject : BaselineEntry → List Bool → List ℕ → Subject
 firstSubject b nodes sizes =
     record {
-      enrolment = record { randomisation = b .date; nontarget = b .nontarget; baseline = diseaseOf b nodes sizes };
+      enrolment = record { randomisation = b .date; nontarget = b .nontarget; disease = diseaseOf b nodes sizes };
       followup =
           record {
             earlier = leftBy (diseaseOf b nodes sizes) [];
-            latest = record { 0 = 1 };
-            therapy = false;
-            death = M.Absent;
+            latestday = record { 0 = 1 };
+            treated = false;
+            deathday = M.Absent;
             event = noVisits (record { 0 = 1 });
             counted = nothingCounted;
           };
@@ -59,14 +59,14 @@ blank =
           record {
             randomisation = ymd 0 0 0;
             nontarget = false;
-            baseline = record { assessed = false; count = 0; nodes = false ∷ false ∷ false ∷ false ∷ false ∷ []; sum = 0 };
+            disease = record { assessed = false; count = 0; nodes = false ∷ false ∷ false ∷ false ∷ false ∷ []; sum = 0 };
           };
       followup =
           record {
             earlier = record { nadir = 0 };
-            latest = record { 0 = 0 };
-            therapy = false;
-            death = M.Absent;
+            latestday = record { 0 = 0 };
+            treated = false;
+            deathday = M.Absent;
             event = noVisits (record { 0 = 0 });
             counted = nothingCounted;
           };

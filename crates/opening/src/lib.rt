@@ -80,13 +80,13 @@ fn first_subject(entry: BaselineEntry, nodes: [bool; 5], sizes: [u16; 5]) -> Sub
     let enrolment = Enrolment {
         randomisation: date,
         nontarget: entry.nontarget,
-        baseline: disease,
+        disease: disease,
     };
     let followup = FollowUp {
         earlier: after,
-        latest: StudyDay(1),
-        therapy: false,
-        death: MaybeDay::Absent,
+        latestday: StudyDay(1),
+        treated: false,
+        deathday: MaybeDay::Absent,
         event: event,
         counted: counted,
     };
@@ -108,7 +108,7 @@ fn blank_subject() -> Subject
             day: 0,
         },
         nontarget: false,
-        baseline: BaselineDisease {
+        disease: BaselineDisease {
             assessed: false,
             count: 0,
             nodes: [false; 5],
@@ -117,9 +117,9 @@ fn blank_subject() -> Subject
     };
     let followup = FollowUp {
         earlier: Earlier { nadir: 0 },
-        latest: StudyDay(0),
-        therapy: false,
-        death: MaybeDay::Absent,
+        latestday: StudyDay(0),
+        treated: false,
+        deathday: MaybeDay::Absent,
         event: event,
         counted: counted,
     };

@@ -116,9 +116,9 @@ some-responses : (e : Enrolment) (f : FollowUp) (day : StudyDay) (v : VisitEntry
     Some responseValues (lineOn e f day v measured sizes)
 unfolding answerOn
 some-responses e f day v measured sizes =
-    let target = some-target (e .baseline) (f .earlier) (visitOf v measured sizes) in
-    let overall = some-overall (e .baseline) (f .earlier) (visitOf v measured sizes) in
-    let change = some-change (e .baseline) (visitOf v measured sizes) in (
+    let target = some-target (e .disease) (f .earlier) (visitOf v measured sizes) in
+    let overall = some-overall (e .disease) (f .earlier) (visitOf v measured sizes) in
+    let change = some-change (e .disease) (visitOf v measured sizes) in (
       record { day = day; target = target .0; nontarget = v .status; overall = overall .0; change = change .0 },
       λ i. record { day = day .0; target = target .1 i; nontarget = statusWord (v .status); overall = overall .1 i; change = change .1 i },
     )

@@ -20,7 +20,7 @@ use Rattle.endpoints.specs.StudyRecords.{Baseline, StudyRecord, onStudyDay, onS
 use Rattle.endpoints.specs.Lawful.{Past, lawfulBehind}
 use Rattle.endpoints.specs.Lasting.{MarksExactOn}
 use Rattle.endpoints.specs.Lines.{VisitLine}
-use Rattle.endpoints.specs.Adding.{refusalsBehind, notBaseline, refusalsOfOpening, refusalOfOpening, refusalsOfAdding, refusalOfAdding, responsesOfAdding, Call, add, acceptedAfter}
+use Rattle.endpoints.specs.Adding.{refusalsBehind, notBaseline, refusalsOfOpening, refusalOfOpening, refusalsOfAdding, refusalOfAdding, responsesOfAdding, Call, add, acceptedAfter, accepted}
 use Rattle.endpoints.proofs.Refusals.{each-behind}
 use Rattle.endpoints.proofs.Calls.{accepted-lawful, accepted-exact}
 use Rattle.held.specs.declared.Subject.{Subject}
@@ -36,6 +36,7 @@ use Rattle.opening.specs.declared.OpenAnswer.{OpenAnswer}
 use Rattle.outcome.specs.declared.OutcomeAnswer.{OutcomeAnswer}
 use Rattle.outcome.specs.Promises.{Reading, outcome, readingValues, outcomeOf, Told}
 use Rattle.outcome.specs.Demand3.{Reply, added, told, Calls, none, adds, reads, outcomeOn, repliesAfter, Without12, SaysOn, Claim, Holds, Demand3}
+use Rattle.outcome.specs.HeldAfter.{Summarises, HeldAfterCalls}
 use Rattle.outcome.proofs.Follows.{refusal-held, responses-held, longer-lawful, added-held, refused-held, outcome-held}
 use Rattle.outcome.proofs.Within.{calls-in-range, reading-in-range}
 use Rattle.outcome.proofs.Runs.{opens, runs, readable}
@@ -190,28 +191,51 @@ module _ (x : BaselineEntry) (marks : List Bool) (sizes : List ℕ) where
       }
 
 -- what an accepted opening made
-module _ {a : OpenAnswer} {s t : Subject} {cs : List Call} {ys : List Reply} {o : OutcomeAnswer} (z : openNumber a ≡ 0) (c : Calls s cs ys t) (q : Told t o) where
-  from-opening : (e : Entry) (marks : List Bool) (sizes : List ℕ) → Opened (record { entry = e; sizes = sizes; marks = marks }) a s →
-      Holds (record { entry = e; sizes = sizes; marks = marks }) cs ys o
-  unfolding openedSubject refusalsOfOpening
-  from-opening e marks sizes w = go e w (none-after-own (record { entry = e; sizes = sizes; marks = marks }) _ .0 (sym (w .answer) ∙ z) .1)
+module _ {a : OpenAnswer} {s t : Subject} {cs : List Call} {ys : List Reply} (z : openNumber a ≡ 0) (c : Calls s cs ys t) where
+  module _ (x : BaselineEntry) (marks : List Bool) (sizes : List ℕ) (w : Opened (opened-with x marks sizes) a s) where
+    accepts : refusalOfOpening (opened-with x marks sizes) ≡ 0
+    accepts = sym (w .answer) ∙ z
+
+    opening-held : Held x marks sizes [] s
+    unfolding openedSubject
+    opening-held =
+        let made : openedSubject (opened-with x marks sizes) ≡ subjectOf (E.Baseline x) marks sizes = rw accepts in
+        record { same = w .made ∙ made ∙ opening-follows x marks sizes; inside = calls-in-range .opened w z; lawfully = refl }
+
+  -- a claim on the record opened with, where it holds of every baseline
+  from-baseline : (Claimed : Record → Type 0) →
+      ((x : BaselineEntry) (marks : List Bool) (sizes : List ℕ) → Opened (opened-with x marks sizes) a s → Claimed (opened-with x marks sizes)) →
+      (r : Record) → Opened r a s → Claimed r
+  unfolding refusalsOfOpening
+  from-baseline Claimed of-baseline r w = go (r .entry) w (none-after-own r _ .0 (sym (w .answer) ∙ z) .1)
     where
-      go : (e : Entry) → Opened (record { entry = e; sizes = sizes; marks = marks }) a s → first (7 when notBaseline e ∷ []) ≡ 0 →
-          Holds (record { entry = e; sizes = sizes; marks = marks }) cs ys o
-      go (E.Baseline x) w n =
-          let accepts = sym (w .answer) ∙ z in
-          let made : openedSubject (opened-with x marks sizes) ≡ subjectOf (E.Baseline x) marks sizes = rw accepts in
-          holds-from x marks sizes (w .five) accepts
-          (record { same = w .made ∙ made ∙ opening-follows x marks sizes; inside = calls-in-range .opened w z; lawfully = refl }) c q
+      go : (e : Entry) → Opened (record { entry = e; sizes = r .sizes; marks = r .marks }) a s → first (7 when notBaseline e ∷ []) ≡ 0 →
+          Claimed (record { entry = e; sizes = r .sizes; marks = r .marks })
+      go (E.Baseline x) w n = of-baseline x (r .marks) (r .sizes) w
       go (E.Visit v) w n = absurd (let f : ⊥ = omega arith in f)
       go (E.Therapy d) w n = absurd (let f : ⊥ = omega arith in f)
       go (E.Death d) w n = absurd (let f : ⊥ = omega arith in f)
 
+  from-opening : {o : OutcomeAnswer} → Told t o → (r : Record) → Opened r a s → Holds r cs ys o
+  from-opening {o} q =
+      from-baseline (λ (r : Record). Holds r cs ys o)
+      (λ x marks sizes w. holds-from x marks sizes (w .five) (accepts x marks sizes w) (opening-held x marks sizes w) c q)
+
+  summarised : (r : Record) → Opened r a s → Summarises (accepted r cs) t
+  summarised =
+      from-baseline (λ (r : Record). Summarises (accepted r cs) t)
+      (λ x marks sizes w.
+      let all = after x marks sizes [] (opening-held x marks sizes w) c in
+      subst (λ (rs : List Record). Summarises rs t) (sym (all .behind)) (all .held .same))
+
 pub demand3 : Demand3
 demand3 =
     record {
-      holds = λ {b} w z c q. from-opening z c q (b .entry) (b .marks) (b .sizes) w;
+      holds = λ {b} w z c q. from-opening z c q b w;
       openingExists = opens;
       callsExist = runs;
       readingExists = readable;
     }
+
+pub held-after-calls : HeldAfterCalls
+held-after-calls = record { summarises = λ {b} w z c. summarised z c b w }

@@ -16,7 +16,7 @@ use Rattle.records.proofs.Passed.{none-after-own}
 use Rattle.endpoints.specs.Values.{isRecorded, dayValue}
 use Rattle.endpoints.specs.StudyRecords.{Baseline, StudyRecord, onStudyDay}
 use Rattle.endpoints.specs.Lawful.{Past, deathDay, lawfulBehind}
-use Rattle.endpoints.specs.Course.{Course, course, deathIn, therapyIn, visitsIn, firstPD, progression, counting}
+use Rattle.endpoints.specs.Course.{Course, course, deathIn, treated, visitsIn, firstPD, progression, counting}
 use Rattle.endpoints.specs.Pfs.{beforeEvent, lastVisit, lastEvaluable, pfsOf, pfs}
 use Rattle.endpoints.specs.Best.{confirmedCR, confirmedResponse, stable, best, firstResponse, durationOf, duration}
 use Rattle.endpoints.specs.Lines.{linesOf}
@@ -98,7 +98,7 @@ module _ (randomisation : Date) (b : Baseline) (p : Past) where
 
   best-mark-held : bestSettledHeld held ≡ bestSettled (b .assessed) c
   unfolding summary eventOf bestSettled
-  best-mark-held = λ i. bestSettledBy (isRecorded (progression-held i)) (therapyIn c) (isRecorded (death-held i)) (b .assessed) (best-held i)
+  best-mark-held = λ i. bestSettledBy (isRecorded (progression-held i)) (treated c) (isRecorded (death-held i)) (b .assessed) (best-held i)
 
   pub outcome-held : outcomeOf held ≡ outcome b p
   unfolding outcomeOf durationSettled

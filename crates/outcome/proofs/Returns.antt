@@ -49,9 +49,9 @@ module _ (d : DurationAnswer) (pfs best : Bool) where
 
 pub parts-read : (s : Subject) (p : PfsResult) (d : DurationAnswer) (progressed dead pfs best duration : Bool) →
     pfsValues p ≡ pfsHeld s → durationValues d ≡ durationOf (bestHeld s) (dayValue (s .followup .counted .firstresponse)) (pfsValues p) →
-    progressed ≡ isRecorded (dayValue (s .followup .event .progression)) → dead ≡ isRecorded (dayValue (s .followup .death)) →
-    pfs ≡ pfsSettledBy (s .enrolment .baseline .assessed) progressed dead (s .followup .latest .0) →
-    best ≡ bestSettledBy progressed (s .followup .therapy) dead (s .enrolment .baseline .assessed) (bestHeld s) →
+    progressed ≡ isRecorded (dayValue (s .followup .event .progression)) → dead ≡ isRecorded (dayValue (s .followup .deathday)) →
+    pfs ≡ pfsSettledBy (s .enrolment .disease .assessed) progressed dead (s .followup .latestday .0) →
+    best ≡ bestSettledBy progressed (s .followup .treated) dead (s .enrolment .disease .assessed) (bestHeld s) →
     duration ≡ durationSettledBy (durationValues d) pfs best →
     outcomeValues (record { pfs = p; best = s .followup .counted .best; duration = d; settled = record { pfs = pfs; best = best; duration = duration } }) ≡ outcomeOf s
 unfolding outcomeOf

@@ -119,7 +119,7 @@ unfolding outcomeOf
 tells-within s w =
     let f = s .followup in
     let v = w .followup in
-    let p = pfs-within (f .event .progression) (f .death) (f .event .lastvisit .0) (f .event .lastevaluable) (v .event .progression) (v .death) (v .event .lastevaluable) in
+    let p = pfs-within (f .event .progression) (f .deathday) (f .event .lastvisit .0) (f .event .lastevaluable) (v .event .progression) (v .deathday) (v .event .lastevaluable) in
     (p, duration-within (bestHeld s) (f .counted .firstresponse) (pfsHeld s) (v .counted .firstresponse) p)
 
 -- what stands beside a refusal, by its number

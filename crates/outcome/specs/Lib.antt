@@ -1,4 +1,5 @@
 pub mod Promises
 pub mod Demand3
+pub mod HeldAfter
 pub mod Laws
 pub mod Examples

@@ -38,7 +38,7 @@ readingValues (A.Read o) = outcome (outcomeValues o)
 -- the parts and the marks from what is held
 abbrev pub pfsHeld : Subject → Pfs
 pfsHeld s =
-    pfsOf (dayValue (s .followup .event .progression)) (dayValue (s .followup .death)) (s .followup .event .lastvisit .0)
+    pfsOf (dayValue (s .followup .event .progression)) (dayValue (s .followup .deathday)) (s .followup .event .lastvisit .0)
     (dayValue (s .followup .event .lastevaluable))
 
 abbrev pub bestHeld : Subject → Word
@@ -49,13 +49,13 @@ durationHeld s = durationOf (bestHeld s) (dayValue (s .followup .counted .firstr
 
 abbrev pub pfsSettledHeld : Subject → Bool
 pfsSettledHeld s =
-    pfsSettledBy (s .enrolment .baseline .assessed) (isRecorded (dayValue (s .followup .event .progression))) (isRecorded (dayValue (s .followup .death)))
-    (s .followup .latest .0)
+    pfsSettledBy (s .enrolment .disease .assessed) (isRecorded (dayValue (s .followup .event .progression))) (isRecorded (dayValue (s .followup .deathday)))
+    (s .followup .latestday .0)
 
 abbrev pub bestSettledHeld : Subject → Bool
 bestSettledHeld s =
-    bestSettledBy (isRecorded (dayValue (s .followup .event .progression))) (s .followup .therapy) (isRecorded (dayValue (s .followup .death)))
-    (s .enrolment .baseline .assessed) (bestHeld s)
+    bestSettledBy (isRecorded (dayValue (s .followup .event .progression))) (s .followup .treated) (isRecorded (dayValue (s .followup .deathday)))
+    (s .enrolment .disease .assessed) (bestHeld s)
 
 unfoldable pub outcomeOf : Subject → Outcome
 outcomeOf s =

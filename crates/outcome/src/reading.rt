@@ -16,7 +16,7 @@ fn outcome_of(s: Subject) -> OutcomeResult
     ensures { λ o. ⌜ outcomeValues o ≡ outcomeOf s ⌝ }
 {
     let followup = s.followup;
-    let death = followup.death;
+    let death = followup.deathday;
     let event = followup.event;
     let progression = event.progression;
     let evaluable = event.lastevaluable;
@@ -27,9 +27,9 @@ fn outcome_of(s: Subject) -> OutcomeResult
     let duration = duration_of(best, first, pfs);
     let progressed = is_recorded(progression);
     let dead = is_recorded(death);
-    let assessed = s.enrolment.baseline.assessed;
-    let pfs_mark = pfs_settled(assessed, progressed, dead, followup.latest);
-    let best_mark = best_settled(progressed, followup.therapy, dead, assessed, best);
+    let assessed = s.enrolment.disease.assessed;
+    let pfs_mark = pfs_settled(assessed, progressed, dead, followup.latestday);
+    let best_mark = best_settled(progressed, followup.treated, dead, assessed, best);
     let duration_mark = duration_settled(duration, pfs_mark, best_mark);
     let settled = SettledMarks {
         pfs: pfs_mark,

@@ -16,7 +16,7 @@ use Rattle.criteria.specs.Nadir.{leftBy}
 use Rattle.endpoints.specs.Values.{Day, on, isRecorded, _orElse_}
 use Rattle.endpoints.specs.StudyRecords.{Baseline, disease, studyDay, entryOnStudyDay}
 use Rattle.endpoints.specs.Lawful.{Past, deathDay, fits, lawfulBehind}
-use Rattle.endpoints.specs.Course.{Course, visitsOf, Judged, answerAt, judge, course, therapyIn, visitsIn, progression, countingClosed, counting}
+use Rattle.endpoints.specs.Course.{Course, visitsOf, Judged, answerAt, judge, course, treated, visitsIn, progression, countingClosed, counting}
 use Rattle.endpoints.specs.Lines.{lineOf, linesOf}
 use Rattle.endpoints.specs.Adding.{refusalsBehind}
 use Rattle.endpoints.proofs.Behind.{absent, next, latest-is-last}
@@ -70,14 +70,14 @@ module _ (randomisation : Date) (b : Baseline) (p : Past) where
   adding-follows (E.Visit v) marks sizes l =
       let r = entryOnStudyDay randomisation (E.Visit v) marks sizes in
       let j = judge b p (studyDay randomisation (v .date)) (visitOf v marks sizes) in
-      let closed = ap (λ (x : Day). either (therapyIn c) (isRecorded x)) (day-of-maybe (progression c)) in
+      let closed = ap (λ (x : Day). either (treated c) (isRecorded x)) (day-of-maybe (progression c)) in
       let latest = ap at (sym (latest-is-last b p r l)) in
       let event = event-follows j (visitsIn c) in
       let counted = counted-unless-closed _ (countingClosed c) j closed (counting-falls b p (next b p r l .before)) in
       λ i.
       record {
         enrolment = held .enrolment;
-        followup = record { earlier = leftBy (disease b) (visitsOf (r ∷ p)); latest = latest i; therapy = therapyIn c; death = maybe (deathDay p); event = event i; counted = counted i };
+        followup = record { earlier = leftBy (disease b) (visitsOf (r ∷ p)); latestday = latest i; treated = treated c; deathday = maybe (deathDay p); event = event i; counted = counted i };
       }
   adding-follows (E.Therapy d) marks sizes l =
       let latest = ap at (sym (latest-is-last b p (entryOnStudyDay randomisation (E.Therapy d) marks sizes) l)) in
@@ -86,4 +86,4 @@ module _ (randomisation : Date) (b : Baseline) (p : Past) where
       let r = entryOnStudyDay randomisation (E.Death d) marks sizes in
       let latest = ap at (sym (latest-is-last b p r l)) in
       let death = ap (λ (x : Day). maybe (x orElse on (studyDay randomisation d))) (sym (absent (deathDay p) (next b p r l .alive))) in
-      λ i. record { enrolment = held .enrolment; followup = later (held .followup) (latest i) (therapyIn c) (death i) }
+      λ i. record { enrolment = held .enrolment; followup = later (held .followup) (latest i) (treated c) (death i) }

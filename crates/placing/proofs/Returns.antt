@@ -90,8 +90,8 @@ counted-or-closed closed c r j q h = h ∙ rw q
 
 pub visit-made : (f : FollowUp) (day : StudyDay) (a : VisitAnswer) (x : Bool) (e : EventDays) (c : CountingVisits) →
     x ≡ isRecorded (dayValue (f .event .progression)) → e ≡ eventAfter (f .event) (record { day = day .0; answer = overallWord (a .overall) }) →
-    c ≡ pick (f .therapy || x) (f .counted) (countedAfter (f .counted) (record { day = day .0; answer = overallWord (a .overall) })) →
-    record { earlier = a .after; latest = day; therapy = f .therapy; death = f .death; event = e; counted = c }
+    c ≡ pick (f .treated || x) (f .counted) (countedAfter (f .counted) (record { day = day .0; answer = overallWord (a .overall) })) →
+    record { earlier = a .after; latestday = day; treated = f .treated; deathday = f .deathday; event = e; counted = c }
     ≡ judgedAdded f (a .after) (record { day = day .0; answer = overallWord (a .overall) })
 visit-made f day a x e c p q r = rw (q, r, p)
 
@@ -109,8 +109,8 @@ module _ (inside : Bool) (own behind : AddAnswer) where
     behind-first z = let none : addNumber own ≡ 0 = sym q ∙ z in rw (not-false inside h, none)
 
 pub refusal-as-tested : (e : Enrolment) (f : FollowUp) (day : StudyDay) (v : VisitEntry) (marks : List Bool) (fit : Bool) (a : AddAnswer) →
-    fit ≡ fitsBy (e .baseline .count) (e .nontarget) (v .status) marks →
-    addNumber a ≡ first (refusalsBy f (leb (day .0) (f .latest .0)) (not fit)) →
+    fit ≡ fitsBy (e .disease .count) (e .nontarget) (v .status) marks →
+    addNumber a ≡ first (refusalsBy f (leb (day .0) (f .latestday .0)) (not fit)) →
     addNumber a ≡ first (refusalsOn e f day (E.Visit v) marks)
 unfolding refusalsOn
 refusal-as-tested e f day v marks fit a fq aq = aq ∙ rw fq
@@ -131,7 +131,7 @@ no-responses A.OutOfRange n q = refl
 no-responses (A.Refused own) n q = refl
 
 pub visit-placed : (e : Enrolment) (f next : FollowUp) (day : StudyDay) (v : VisitEntry) (measured : List Bool) (sizes : List ℕ) (a : VisitAnswer) (r : VisitResponse) →
-    JudgesVisit (e .baseline) (f .earlier) (visitOf v measured sizes) a →
+    JudgesVisit (e .disease) (f .earlier) (visitOf v measured sizes) a →
     next ≡ judgedAdded f (a .after) (record { day = day .0; answer = overallWord (a .overall) }) →
     responseValues r
     ≡ record { day = day .0; target = targetWord (a .target); nontarget = statusWord (v .status); overall = overallWord (a .overall); change = changeValues (a .change) } →
@@ -167,9 +167,9 @@ module _ (inside : Bool) (e : Enrolment) (f : FollowUp) (d : Dated) (v : VisitEn
 
 -- a therapy or a death
 module _ (inside : Bool) (f : FollowUp) (d : Dated) (next : FollowUp) (behind refusal : AddAnswer) (n : ℕ)
-    (bq : addNumber behind ≡ first (refusalsBy f (ltb (d .day .0) (f .latest .0)) false))
+    (bq : addNumber behind ≡ first (refusalsBy f (ltb (d .day .0) (f .latestday .0)) false))
     (rq : addNumber refusal ≡ firstRefusal inside (addNumber (d .own)) (addNumber behind)) (nq : n ≡ addNumber refusal) where
-  later-number : addNumber refusal ≡ firstRefusal inside (addNumber (d .own)) (first (refusalsBy f (ltb (d .day .0) (f .latest .0)) false))
+  later-number : addNumber refusal ≡ firstRefusal inside (addNumber (d .own)) (first (refusalsBy f (ltb (d .day .0) (f .latestday .0)) false))
   later-number = rq ∙ ap (firstRefusal inside (addNumber (d .own))) bq
 
   pub later-refused : (x : Step) → (n ≡ 0 → ⊥) → (x .answer ≡ refusal) × (x .followup ≡ f) → StepsLater inside f d next x
@@ -207,7 +207,7 @@ module _ (inside : Bool) (e : Enrolment) (f : FollowUp) (d : Dated) (r : Entry) 
 
   module _ (date : Date) (next : FollowUp) (w : StepsLater inside f d next x) where
     abbrev refusal : ℕ
-    refusal = firstRefusal inside (addNumber (d .own)) (first (refusalsBy f (ltb (d .day .0) (f .latest .0)) false))
+    refusal = firstRefusal inside (addNumber (d .own)) (first (refusalsBy f (ltb (d .day .0) (f .latestday .0)) false))
 
     later-lines : (z : Bool) → _≡_ {A = List VisitLine} [] (pick z [] [])
     later-lines true = refl

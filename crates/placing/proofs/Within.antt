@@ -72,14 +72,14 @@ nadir-least b earlier v = go (allMeasured (b .count) (v .measured))
 
 later-within : (f : FollowUp) (day : StudyDay) (therapy : Bool) (death : MaybeDay) → FollowUpWithin f → Within (day .0) → AbsentOrWithin death →
     FollowUpWithin (later f day therapy death)
-later-within f day therapy death w d a = record { nadir = w .nadir; latest = d; death = a; event = w .event; counted = w .counted }
+later-within f day therapy death w d a = record { nadir = w .nadir; latestday = d; deathday = a; event = w .event; counted = w .counted }
 
 -- a date whose study day is not before the latest one
-on-or-after : (randomisation : Date) (f : FollowUp) (d : Date) → FollowUpWithin f → ltb (studyDay randomisation d) (f .latest .0) ≡ false →
+on-or-after : (randomisation : Date) (f : FollowUp) (d : Date) → FollowUpWithin f → ltb (studyDay randomisation d) (f .latestday .0) ≡ false →
     Within (studyDay randomisation d)
 on-or-after randomisation f d w h =
-    let from = w .latest .0 in
-    let behind = ltb-false (studyDay randomisation d) (f .latest .0) h in
+    let from = w .latestday .0 in
+    let behind = ltb-false (studyDay randomisation d) (f .latestday .0) h in
     (omega arith, study-day-most randomisation d)
 
 pub adding-within : (e : Enrolment) (f : FollowUp) (r : Entry) (marks : List Bool) (sizes : List ℕ) → FollowUpWithin f →
@@ -88,16 +88,16 @@ unfolding visitAdded therapyAdded deathAdded
 adding-within e f (E.Baseline b) marks sizes w r = w
 adding-within e f (E.Visit v) marks sizes w r =
     let most = study-day-most (e .randomisation) (v .date) in
-    let behind = leb-false (studyDay (e .randomisation) (v .date)) (f .latest .0) (not-early e f (heldDay (e .randomisation) (v .date)) (E.Visit v) marks r) in
-    let from = w .latest .0 in
+    let behind = leb-false (studyDay (e .randomisation) (v .date)) (f .latestday .0) (not-early e f (heldDay (e .randomisation) (v .date)) (E.Visit v) marks r) in
+    let from = w .latestday .0 in
     let day : Within (studyDay (e .randomisation) (v .date)) = (omega arith, most) in
     let j : Judged = record { day = studyDay (e .randomisation) (v .date); answer = answerOn e f v marks sizes } in
-    let least = nadir-least (e .baseline) (f .earlier) (visitOf v marks sizes) in
+    let least = nadir-least (e .disease) (f .earlier) (visitOf v marks sizes) in
     let nadir = w .nadir in
     record {
       nadir = omega arith;
-      latest = day;
-      death = w .death;
+      latestday = day;
+      deathday = w .deathday;
       event = event-within j day (f .event) (w .event);
       counted = counted-or-not (closedOn f) (counted-within j day (f .counted) (w .counted));
     }
@@ -107,7 +107,7 @@ adding-within e f (E.Visit v) marks sizes w r =
     counted-or-not false k = k
 adding-within e f (E.Therapy d) marks sizes w r =
     let day = on-or-after (e .randomisation) f d w (not-early e f (heldDay (e .randomisation) d) (E.Therapy d) marks r) in
-    later-within f _ true (f .death) w day (w .death)
+    later-within f _ true (f .deathday) w day (w .deathday)
 adding-within e f (E.Death d) marks sizes w r =
     let day = on-or-after (e .randomisation) f d w (not-early e f (heldDay (e .randomisation) d) (E.Death d) marks r) in
-    later-within f _ (f .therapy) (M.On (heldDay (e .randomisation) d)) w day day
+    later-within f _ (f .treated) (M.On (heldDay (e .randomisation) d)) w day day

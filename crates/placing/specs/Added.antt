@@ -30,38 +30,38 @@ heldDay randomisation d = at (studyDay randomisation d)
 
 -- the overall answer at a visit
 unfoldable pub answerOn : Enrolment → FollowUp → VisitEntry → List Bool → List ℕ → Word
-answerOn e f v measured sizes = overallAnswer (e .baseline) (f .earlier) (visitOf v measured sizes)
+answerOn e f v measured sizes = overallAnswer (e .disease) (f .earlier) (visitOf v measured sizes)
 
 -- no further visit counts
 abbrev pub closedOn : FollowUp → Bool
-closedOn f = either (f .therapy) (isRecorded (dayValue (f .event .progression)))
+closedOn f = either (f .treated) (isRecorded (dayValue (f .event .progression)))
 
 -- after a visit, from what it leaves for judging the next one and the visit as judged
 abbrev pub judgedAdded : FollowUp → Earlier → Judged → FollowUp
 judgedAdded f after j =
     record {
       earlier = after;
-      latest = at (j .day);
-      therapy = f .therapy;
-      death = f .death;
+      latestday = at (j .day);
+      treated = f .treated;
+      deathday = f .deathday;
       event = eventAfter (f .event) j;
       counted = pick (closedOn f) (f .counted) (countedAfter (f .counted) j);
     }
 
 unfoldable pub visitAdded : Enrolment → FollowUp → StudyDay → VisitEntry → List Bool → List ℕ → FollowUp
 visitAdded e f day v measured sizes =
-    judgedAdded f (afterVisit (e .baseline) (f .earlier) (visitOf v measured sizes)) (record { day = day .0; answer = answerOn e f v measured sizes })
+    judgedAdded f (afterVisit (e .disease) (f .earlier) (visitOf v measured sizes)) (record { day = day .0; answer = answerOn e f v measured sizes })
 
 -- on a later day, with or without a therapy and a death; nothing of the visits changes
 abbrev pub later : FollowUp → StudyDay → Bool → MaybeDay → FollowUp
 later f day therapy death =
-    record { earlier = f .earlier; latest = day; therapy = therapy; death = death; event = f .event; counted = f .counted }
+    record { earlier = f .earlier; latestday = day; treated = therapy; deathday = death; event = f .event; counted = f .counted }
 
 unfoldable pub therapyAdded : FollowUp → StudyDay → FollowUp
-therapyAdded f day = later f day true (f .death)
+therapyAdded f day = later f day true (f .deathday)
 
 unfoldable pub deathAdded : FollowUp → StudyDay → FollowUp
-deathAdded f day = later f day (f .therapy) (M.On day)
+deathAdded f day = later f day (f .treated) (M.On day)
 
 -- after a record on its study day; no baseline comes to be added
 abbrev pub entryAdded : Enrolment → FollowUp → StudyDay → Entry → List Bool → List ℕ → FollowUp

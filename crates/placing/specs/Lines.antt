@@ -48,10 +48,10 @@ abbrev pub lineOn : Enrolment → FollowUp → StudyDay → VisitEntry → List 
 lineOn e f day v measured sizes =
     record {
       day = day .0;
-      target = targetAnswer (e .baseline) (f .earlier) (visitOf v measured sizes);
+      target = targetAnswer (e .disease) (f .earlier) (visitOf v measured sizes);
       nontarget = statusWord (v .status);
       overall = answerOn e f v measured sizes;
-      change = changeOf (e .baseline) (visitOf v measured sizes);
+      change = changeOf (e .disease) (visitOf v measured sizes);
     }
 
 -- a visit has responses, and no other record

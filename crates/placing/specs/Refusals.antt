@@ -33,19 +33,19 @@ addNumber (A.Refused own) = ownNumber own
 -- each visit is later than the latest day so far, each therapy or death on or after it
 abbrev pub earlyOn : FollowUp → StudyDay → Entry → Bool
 earlyOn f day (E.Baseline b) = false
-earlyOn f day (E.Visit v) = leb (day .0) (f .latest .0)
-earlyOn f day (E.Therapy d) = ltb (day .0) (f .latest .0)
-earlyOn f day (E.Death d) = ltb (day .0) (f .latest .0)
+earlyOn f day (E.Visit v) = leb (day .0) (f .latestday .0)
+earlyOn f day (E.Therapy d) = ltb (day .0) (f .latestday .0)
+earlyOn f day (E.Death d) = ltb (day .0) (f .latestday .0)
 
 abbrev pub misfitOn : Enrolment → Entry → List Bool → Bool
 misfitOn e (E.Baseline b) measured = false
-misfitOn e (E.Visit v) measured = not (fitsBy (e .baseline .count) (e .nontarget) (v .status) measured)
+misfitOn e (E.Visit v) measured = not (fitsBy (e .disease .count) (e .nontarget) (v .status) measured)
 misfitOn e (E.Therapy d) measured = false
 misfitOn e (E.Death d) measured = false
 
 -- 9 after a death; 10 day too early; 11 visit doesn't fit baseline
 abbrev pub refusalsBy : FollowUp → Bool → Bool → List Refusal
-refusalsBy f early misfit = 9 when isRecorded (dayValue (f .death)) ∷ 10 when early ∷ 11 when misfit ∷ []
+refusalsBy f early misfit = 9 when isRecorded (dayValue (f .deathday)) ∷ 10 when early ∷ 11 when misfit ∷ []
 
 -- 8 a baseline, before these
 unfoldable pub refusalsOn : Enrolment → FollowUp → StudyDay → Entry → List Bool → List Refusal

@@ -53,6 +53,6 @@ Steps inside e f day own r marks sizes x = StepsBy e f day r marks sizes (firstR
 
 -- of a therapy or a death, by the follow-up after it: 9, or 10 before the latest day; no responses
 pub record StepsLater (inside : Bool) (f : FollowUp) (d : Dated) (next : FollowUp) (x : Step) : Type 0 where
-  pub answer : addNumber (x .answer) ≡ firstRefusal inside (addNumber (d .own)) (first (refusalsBy f (ltb (d .day .0) (f .latest .0)) false))
+  pub answer : addNumber (x .answer) ≡ firstRefusal inside (addNumber (d .own)) (first (refusalsBy f (ltb (d .day .0) (f .latestday .0)) false))
   pub responses : addResponses (x .answer) ≡ []
   pub left : x .followup ≡ pick (eqb (addNumber (x .answer)) 0) next f

@@ -27,13 +27,13 @@ fn counted_unless(closed: bool, c: CountingVisits, visit: JudgedVisit) -> Counti
 pub(crate) fn after_visit(f: FollowUp, day: StudyDay, judged: VisitAnswer) -> FollowUp
     ensures { λ r. ⌜ r ≡ judgedAdded f (judged .after) (record { day = day .0; answer = overallWord (judged .overall) }) ⌝ }
 {
-    let death = f.death;
+    let death = f.deathday;
     let before = f.event;
     let progression = before.progression;
     let counting = f.counted;
     let answer = judged.overall;
     let after = judged.after;
-    let closed = f.therapy | is_recorded(progression);
+    let closed = f.treated | is_recorded(progression);
     let visit = JudgedVisit {
         day: day,
         answer: answer,
@@ -42,9 +42,9 @@ pub(crate) fn after_visit(f: FollowUp, day: StudyDay, judged: VisitAnswer) -> Fo
     let counted = counted_unless(closed, counting, visit);
     FollowUp {
         earlier: after,
-        latest: day,
-        therapy: f.therapy,
-        death: death,
+        latestday: day,
+        treated: f.treated,
+        deathday: death,
         event: event,
         counted: counted,
     }
@@ -59,9 +59,9 @@ fn later(f: FollowUp, day: StudyDay, therapy: bool, death: MaybeDay) -> FollowUp
     let counted = f.counted;
     FollowUp {
         earlier: earlier,
-        latest: day,
-        therapy: therapy,
-        death: death,
+        latestday: day,
+        treated: therapy,
+        deathday: death,
         event: event,
         counted: counted,
     }
@@ -70,12 +70,12 @@ fn later(f: FollowUp, day: StudyDay, therapy: bool, death: MaybeDay) -> FollowUp
 pub(crate) fn after_therapy(f: FollowUp, day: StudyDay) -> FollowUp
     ensures { λ r. ⌜ r ≡ therapyAdded f day ⌝ }
 {
-    let death = f.death;
+    let death = f.deathday;
     later(f, day, true, death)
 }
 
 pub(crate) fn after_death(f: FollowUp, day: StudyDay) -> FollowUp
     ensures { λ r. ⌜ r ≡ deathAdded f day ⌝ }
 {
-    later(f, day, f.therapy, MaybeDay::On(day))
+    later(f, day, f.treated, MaybeDay::On(day))
 }

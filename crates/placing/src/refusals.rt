@@ -55,7 +55,7 @@ pub(crate) fn first_refusal(inside: bool, own: AddAnswer, behind: AddAnswer) -> 
 fn refusal_behind(f: FollowUp, early: bool, misfit: bool) -> AddAnswer
     ensures { λ a. ⌜ addNumber a ≡ first (refusalsBy f early misfit) ⌝ }
 {
-    let death = f.death;
+    let death = f.deathday;
     if is_recorded(death) {
         return AddAnswer::AfterDeath;
     }
@@ -79,13 +79,13 @@ pub(crate) fn refusal_of_visit(
     ensures { λ a. ⌜ addNumber a ≡ first (refusalsOn e f day (E.Visit v) measured) ⌝ }
 {
     let status = v.status;
-    let fit = fits(e.baseline.count, e.nontarget, status, measured);
-    refusal_behind(f, day.0 <= f.latest.0, !fit)
+    let fit = fits(e.disease.count, e.nontarget, status, measured);
+    refusal_behind(f, day.0 <= f.latestday.0, !fit)
 }
 
 // 9 and 10 of a therapy or a death, which is on or after the latest day.
 pub(crate) fn refusal_on_or_after(f: FollowUp, day: StudyDay) -> AddAnswer
-    ensures { λ a. ⌜ addNumber a ≡ first (refusalsBy f (ltb (day .0) (f .latest .0)) false) ⌝ }
+    ensures { λ a. ⌜ addNumber a ≡ first (refusalsBy f (ltb (day .0) (f .latestday .0)) false) ⌝ }
 {
-    refusal_behind(f, day.0 < f.latest.0, false)
+    refusal_behind(f, day.0 < f.latestday.0, false)
 }

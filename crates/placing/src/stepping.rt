@@ -60,7 +60,7 @@ fn place_visit(
 ) -> Step
     ensures { λ x. ⌜ StepsBy e f day (E.Visit v) measured sizes 0 x ⌝ }
 {
-    let baseline = e.baseline;
+    let baseline = e.disease;
     let earlier = f.earlier;
     let judged = response::judge_visit(baseline, earlier, v, measured, sizes);
     let next = after_visit(f, day, judged);

@@ -229,9 +229,9 @@ fn late_response() {
         enrolment: enrolment,
         followup: FollowUp {
             earlier: earlier,
-            latest: StudyDay(78),
-            therapy: false,
-            death: MaybeDay::Absent,
+            latestday: StudyDay(78),
+            treated: false,
+            deathday: MaybeDay::Absent,
             event: EventDays {
                 progression: MaybeDay::Absent,
                 lastvisit: StudyDay(43),

@@ -72,7 +72,7 @@ module _ (x : BaselineEntry) (marks : List Bool) (sizes : List ℕ) (passes : fi
     -- every visit is on or before the latest day
     latest-within : Within (latestDay (behind later))
     unfolding summary
-    latest-within = subst (λ (t : Subject). Within (t .followup .latest .0)) (h .held .same) (subject-within s (h .held .inside) .followup .latest)
+    latest-within = subst (λ (t : Subject). Within (t .followup .latestday .0)) (h .held .same) (subject-within s (h .held .inside) .followup .latestday)
 
     told-within : Within (outcome b (behind later) .pfs .day) × DurationWithin (outcome b (behind later) .duration)
     told-within =

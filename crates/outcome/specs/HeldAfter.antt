@@ -1,0 +1,24 @@
+-- Document 01, "Settled": what is held after any list of calls; each field is told by `summary` (held/specs/Summary). Proved in proofs/Demand.antt.
+-- Assumes nothing.
+use mathlib.Core.Path.{_≡_}
+use mathlib.Core.List.{List, [], _∷_, reverse}
+use Rattle.records.specs.declared.Record.{Record}
+use Rattle.records.specs.Form.{dateOf}
+use Rattle.endpoints.specs.StudyRecords.{Baseline, StudyRecord, onStudyDays, fromBaseline}
+use Rattle.endpoints.specs.Adding.{Call, accepted}
+use Rattle.held.specs.declared.Subject.{Subject}
+use Rattle.held.specs.Summary.{summary}
+use Rattle.opening.specs.declared.OpenAnswer.{OpenAnswer}
+use Rattle.opening.specs.Opening.{openNumber, Opened}
+use Rattle.outcome.specs.Demand3.{Reply, Calls}
+
+-- the subject is the summary of records in the order recorded, baseline first
+abbrev pub Summarises : List Record → Subject → Type 0
+Summarises [] s = ⊥
+Summarises (b ∷ rs) s =
+    fromBaseline ⊥ (λ (base : Baseline) (later : List StudyRecord). s ≡ summary (dateOf (b .entry)) base (reverse later)) (onStudyDays (b ∷ rs))
+
+pub record HeldAfterCalls : Type 0 where
+  -- after an accepted opening and any list of calls it is that of the records accepted
+  pub summarises : {b : Record} {a : OpenAnswer} {s t : Subject} {cs : List Call} {ys : List Reply} →
+      Opened b a s → openNumber a ≡ 0 → Calls s cs ys t → Summarises (accepted b cs) t
