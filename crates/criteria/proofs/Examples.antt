@@ -3,11 +3,11 @@
 use mathlib.Core.Path.{refl}
 use Rattle.criteria.specs.Sums.{measuredSum, baselineSum, allMeasured}
 use Rattle.criteria.specs.Targets.{allGone, grown, shrunk, targetAnswer}
-use Rattle.criteria.specs.Nadir.{afterVisit}
+use Rattle.criteria.specs.Nadir.{afterVisit, nadirOf}
 use Rattle.criteria.specs.Overall.{overallBy}
 use Rattle.criteria.specs.Change.{changeBetween, changeOf}
 use Rattle.criteria.specs.Visits.{overallAnswer}
-use Rattle.criteria.specs.Examples.{Edges, OrdersAndPlaces, GridRows, OverallAlone, Nadirs, WrongReadings, Printed, Changes, WordsOfCases}
+use Rattle.criteria.specs.Examples.{Edges, OrdersAndPlaces, GridRows, OverallAlone, Nadirs, NadirsByTheTerm, WrongReadings, Printed, Changes, WordsOfCases}
 
 pub edges : Edges
 unfolding measuredSum baselineSum allMeasured allGone grown shrunk targetAnswer afterVisit
@@ -59,6 +59,20 @@ nadirs =
       lesser = refl;
       larger = refl;
       incomplete = refl;
+    }
+
+pub nadirs-by-the-term : NadirsByTheTerm
+unfolding measuredSum baselineSum allMeasured nadirOf
+nadirs-by-the-term =
+    record {
+      noVisit = refl;
+      noneComplete = refl;
+      baselineLeast = refl;
+      lastLeast = refl;
+      firstLeast = refl;
+      betweenLeast = refl;
+      incompleteBetween = refl;
+      incompleteFirst = refl;
     }
 
 pub wrong-readings : WrongReadings

@@ -12,7 +12,7 @@ use Rattle.records.specs.declared.Status.the-variants as S
 use Rattle.criteria.specs.Words.{Word, CR, PR, SD, PD, NE, NA, NN, targetWord, statusWord, overallWord}
 use Rattle.criteria.specs.Inputs.{Visit, diseaseOf}
 use Rattle.criteria.specs.Sums.{measuredSum, baselineSum}
-use Rattle.criteria.specs.Nadir.{afterVisit}
+use Rattle.criteria.specs.Nadir.{afterVisit, nadirOf}
 use Rattle.criteria.specs.Overall.{isPD, overallBy, evaluable}
 use Rattle.criteria.specs.Change.{none, signed, changeValues, changeBetween, changeOf}
 use Rattle.criteria.specs.Visits.{visitTarget, visitOverall}
@@ -117,6 +117,24 @@ pub record Nadirs : Type 0 where
   pub lesser : after60 (true ∷ true ∷ []) (30 ∷ 20 ∷ []) ≡ record { nadir = 50 }
   pub larger : after60 (true ∷ true ∷ []) (40 ∷ 30 ∷ []) ≡ record { nadir = 60 }
   pub incomplete : after60 (true ∷ false ∷ []) (30 ∷ 0 ∷ []) ≡ record { nadir = 60 }
+
+-- two targets of 60 and 40
+abbrev pub twoTargets : BaselineDisease
+twoTargets = baselineWith [] (60 ∷ 40 ∷ [])
+
+-- the nadir itself; the earlier visits stand newest first
+pub record NadirsByTheTerm : Type 0 where
+  -- the baseline sum where there is no earlier visit, where none has every target measured, and where it is the least
+  pub noVisit : nadirOf twoTargets [] ≡ 100
+  pub noneComplete : nadirOf twoTargets (measuring (30 ∷ []) ∷ measuring [] ∷ []) ≡ 100
+  pub baselineLeast : nadirOf twoTargets (measuring (70 ∷ 50 ∷ []) ∷ measuring (60 ∷ 50 ∷ []) ∷ []) ≡ 100
+  -- the sums of all earlier visits: the least is the last, the first, behind which the next one is a progression, and one between
+  pub lastLeast : nadirOf twoTargets (measuring (30 ∷ 20 ∷ []) ∷ measuring (50 ∷ 40 ∷ []) ∷ measuring (40 ∷ 40 ∷ []) ∷ []) ≡ 50
+  pub firstLeast : nadirOf twoTargets (measuring (50 ∷ 40 ∷ []) ∷ measuring (40 ∷ 40 ∷ []) ∷ measuring (30 ∷ 20 ∷ []) ∷ []) ≡ 50
+  pub betweenLeast : nadirOf twoTargets (measuring (50 ∷ 40 ∷ []) ∷ measuring (30 ∷ 20 ∷ []) ∷ measuring (40 ∷ 40 ∷ []) ∷ []) ≡ 50
+  -- one with a target unmeasured does not count, and takes none before or behind it away
+  pub incompleteBetween : nadirOf twoTargets (measuring (50 ∷ 40 ∷ []) ∷ measuring (10 ∷ []) ∷ measuring (30 ∷ 20 ∷ []) ∷ []) ≡ 50
+  pub incompleteFirst : nadirOf twoTargets (measuring (30 ∷ 20 ∷ []) ∷ measuring (10 ∷ []) ∷ []) ≡ 50
 
 pub record WrongReadings : Type 0 where
   -- growth against baseline alone: the sum is half the baseline's and three times the nadir

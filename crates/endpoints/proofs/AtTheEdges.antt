@@ -19,7 +19,7 @@ use Rattle.endpoints.specs.Lines.{lineOf}
 use Rattle.endpoints.specs.Settled.{settledFrom, pfsSettledBy, bestSettledBy, durationSettledBy, pfsSettled, bestSettled, durationSettled}
 use Rattle.endpoints.specs.Adding.{refusalsBehind, refusalsOfOpening, refusalsOfAdding}
 use Rattle.endpoints.specs.Examples.{starred, Hold}
-use Rattle.endpoints.specs.FurtherExamples.{WordsOfCases, further, PrintedLines, FieldsThatPass}
+use Rattle.endpoints.specs.FurtherExamples.{WordsOfCases, CoursesOfRecords, further, PrintedLines, FieldsThatPass}
 use Rattle.endpoints.specs.AddingExamples.{Unlawful, FittingStatuses, OnStudyDays, FirstRefusals, RepliedOfVisits}
 
 pub examples-hold : Hold starred × Hold further
@@ -27,7 +27,19 @@ unfolding starred further entryPasses wrongSize largeMeasured setBeyond sizedUnm
 examples-hold = (record { lists = refl; visits = refl; answers = refl }, record { lists = refl; visits = refl; answers = refl })
 
 pub words-of-cases : WordsOfCases
-words-of-cases = record { days = refl; statuses = refl; pfs = refl; best = refl; durations = refl }
+words-of-cases = record { days = refl; statuses = refl; pfs = refl; best = refl; judged = refl; durations = refl }
+
+pub courses-of-records : CoursesOfRecords
+unfolding measuredSum baselineSum allMeasured allGone grown shrunk targetAnswer afterVisit overallBy overallAnswer answerAt
+courses-of-records =
+    record {
+      eachKind = refl;
+      randomisation = refl;
+      latest = refl;
+      latestOfCourse = refl;
+      afterTherapy = refl;
+      withoutTherapy = refl;
+    }
 
 pub unlawful : Unlawful
 unfolding measuredBeyond fitsBy fits
@@ -121,6 +133,7 @@ replied-of-visits =
       afterTherapy = refl;
       afterProgression = refl;
       second = refl;
+      third = refl;
       therapy = refl;
       death = refl;
       again = refl;

@@ -1,4 +1,4 @@
--- One record more behind a lawful list and one event more of its course, and days that are recorded or absent.
+-- One record more behind a lawful list and one occurrence more in its course, and days that are recorded or absent.
 -- Assumes nothing.
 use mathlib.Core.Path.{_≡_, refl, sym, _∙_}
 use mathlib.Core.Bool.{Bool, true, false, not}
@@ -73,7 +73,7 @@ module _ (b : Baseline) where
   death-in (therapy d ∷ p) = death-in p
   death-in (death d ∷ p) = rw (death-in p)
 
--- what a lawful list says of its newest event
+-- what a lawful list says of its newest occurrence
 pub record Follows (assessed : Bool) (c : Course) (e : Occurrence) : Type 0 where
   pub alive : deathIn c ≡ none
   pub later : latestIn c ≤ dayIn e
@@ -95,7 +95,7 @@ abbrev pub Unchanged : {A : Type 0} → (Course → A) → Baseline → Past →
 Unchanged part b p =
     (run : Past) → allPass run ≡ true → lawfulBehind b (run ++ p) ≡ true → part (course b (run ++ p)) ≡ part (course b p)
 
--- so it is where each further event keeps it, together with a reason for that
+-- so it is where each further occurrence keeps it, together with a reason for that
 pub lasts-by : {A : Type 0} (part : Course → A) (Reason : Course → Type 0) (b : Baseline) →
     ((c : Course) (e : Occurrence) → Follows (b .assessed) c e → Reason c → Reason (e ∷ c) × (part (e ∷ c) ≡ part c)) →
     (p : Past) → Reason (course b p) → Unchanged part b p

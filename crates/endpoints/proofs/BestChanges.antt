@@ -1,4 +1,4 @@
--- Courses of which some further events change best response or duration. The marks are not named here.
+-- Courses of which some further occurrences change best response or duration. The marks are not named here.
 -- Assumes nothing.
 use mathlib.Core.Path.{_≡_, refl, sym, ap, _∙_}
 use mathlib.Core.Bool.{Bool, true, false}

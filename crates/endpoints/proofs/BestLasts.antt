@@ -1,10 +1,9 @@
--- Reasons for which best response and duration last: each further event of a lawful list keeps them, and a reason for it. The marks are not named
+-- Reasons for which best response and duration last: each further occurrence of a lawful list keeps them, and a reason for it. The marks are not named
 -- here.
 -- Assumes nothing.
 use mathlib.Core.Path.{_≡_, refl, sym, ap, _∙_}
 use mathlib.Core.Bool.{Bool, true, false}
 use mathlib.Core.List.{List, [], _∷_}
-use Prim.Native.Nat.{_-_}
 use Rattle.laws.specs.Choice.{both, either, pick}
 use Rattle.laws.proofs.Tests.{never, either-with-true}
 use Rattle.criteria.specs.Words.{Word, CR, NE}

@@ -1,17 +1,19 @@
 -- Document 01, "Examples at the edges", 7 and 11, the outcome of the printed example, cases in which one sentence of "Outcome" or "Settled" applies and a
--- similar one does not, and the words of the declared cases; proved in proofs/AtTheEdges.antt.
+-- similar one does not, the course of small lists, and the words of the declared cases; proved in proofs/AtTheEdges.antt.
 -- Assumes nothing.
 use mathlib.Core.Path.{_≡_}
 use mathlib.Core.Bool.{Bool, true, false}
-use mathlib.Core.List.{List, [], _∷_, map}
+use mathlib.Core.List.{List, [], _∷_, map, reverse}
 use Prim.Native.Nat.{ℕ}
 use Rattle.records.specs.declared.Status.the-variants as S
 use Rattle.records.specs.Examples.{filled}
-use Rattle.criteria.specs.Words.{CR, PR, SD, PD, NE, NA, NN}
+use Rattle.criteria.specs.Words.{Word, CR, PR, SD, PD, NE, NA, NN}
+use Rattle.criteria.specs.declared.Overall.the-variants as O
 use Rattle.criteria.specs.Change.{signed}
 use Rattle.endpoints.specs.Values.{none, on, EVENT, CENSORED, event, censored, noDuration, forDays, dayValue, wordOfStatus, pfsValues, bestWord, durationValues}
-use Rattle.endpoints.specs.StudyRecords.{Baseline, StudyRecord, baseline, visit, therapy, death, fieldsPass, allPass}
-use Rattle.endpoints.specs.Lawful.{Past}
+use Rattle.endpoints.specs.StudyRecords.{Baseline, StudyRecord, baseline, visit, therapy, death, dayOf, fieldsPass, allPass}
+use Rattle.endpoints.specs.Lawful.{Past, latestDay}
+use Rattle.endpoints.specs.Course.{Judged, judgedValues, visited, therapyOn, deathOn, Course, course, latestIn, treated}
 use Rattle.endpoints.specs.Lines.{linesInOrder}
 use Rattle.endpoints.specs.Examples.{withTargets, oneTarget, withNode, noTargets, missing, visitOn, measuring, unmeasured, Said, is, pfsIs, bestIs, durationIs, pfsOfList, bestOfList, durationOfList, pfsSettledOfList, bestSettledOfList, durationSettledOfList, Example, example}
 use Rattle.endpoints.specs.declared.MaybeDay.the-variants as M
@@ -25,7 +27,31 @@ pub record WordsOfCases : Type 0 where
   pub statuses : map wordOfStatus (E.Event ∷ E.Censored ∷ []) ≡ EVENT ∷ CENSORED ∷ []
   pub pfs : pfsValues (record { status = E.Censored; day = record { 0 = 43 } }) ≡ censored 43
   pub best : map bestWord (B.CR ∷ B.PR ∷ B.SD ∷ B.PD ∷ B.NE ∷ []) ≡ CR ∷ PR ∷ SD ∷ PD ∷ NE ∷ []
+  pub judged : judgedValues (record { day = record { 0 = 43 }; answer = O.PR }) ≡ record { day = 43; answer = PR }
   pub durations : map durationValues (D.Absent ∷ D.ForDays (record { status = E.Event; days = 85 }) ∷ []) ≡ noDuration ∷ forDays EVENT 85 ∷ []
+
+-- the course of the records behind one target of 100, in the order recorded
+abbrev pub courseOf : List StudyRecord → Course
+courseOf rs = course oneTarget (reverse rs)
+
+abbrev pub judgedOn : ℕ → Word → Judged
+judgedOn d answer = record { day = d; answer = answer }
+
+pub record CoursesOfRecords : Type 0 where
+  -- each visit with its day and overall answer, each therapy and death with its day, newest first
+  pub eachKind : courseOf (measuring 43 60 ∷ therapy 50 ∷ unmeasured 85 ∷ death 100 ∷ [])
+      ≡ deathOn 100 ∷ visited (judgedOn 85 NE) ∷ therapyOn 50 ∷ visited (judgedOn 43 PR) ∷ []
+  -- randomisation is day 1; the latest day starts there, and a visit, a therapy and a death move it
+  pub randomisation : dayOf (baseline oneTarget) ≡ 1
+  pub latest : map (λ (rs : List StudyRecord). latestDay (reverse rs))
+      ([] ∷ (measuring 43 60 ∷ []) ∷ (measuring 43 60 ∷ therapy 50 ∷ []) ∷ (measuring 43 60 ∷ death 50 ∷ []) ∷ [])
+      ≡ 1 ∷ 43 ∷ 50 ∷ 50 ∷ []
+  pub latestOfCourse : map (λ (rs : List StudyRecord). latestIn (courseOf rs))
+      ([] ∷ (measuring 43 60 ∷ []) ∷ (measuring 43 60 ∷ therapy 50 ∷ []) ∷ (measuring 43 60 ∷ death 50 ∷ []) ∷ [])
+      ≡ 1 ∷ 43 ∷ 50 ∷ 50 ∷ []
+  -- a therapy stays recorded behind a visit and a death, and neither is one
+  pub afterTherapy : treated (courseOf (therapy 50 ∷ measuring 85 60 ∷ death 100 ∷ [])) ≡ true
+  pub withoutTherapy : treated (courseOf (measuring 85 60 ∷ death 100 ∷ [])) ≡ false
 
 -- the visits of the printed example
 abbrev pub visit43 : StudyRecord
@@ -121,6 +147,9 @@ further =
     (pfsIs (event 85))
     ∷ example oneTarget (measuring 43 90 ∷ measuring 85 200 ∷ measuring 127 0 ∷ measuring 169 0 ∷ []) (SD ∷ PD ∷ CR ∷ CR ∷ []) bestOfList
     (bestIs SD)
+    -- nor v and the last evaluable visit before it
+    ∷ example oneTarget (measuring 43 90 ∷ measuring 127 200 ∷ measuring 169 0 ∷ []) (SD ∷ PD ∷ CR ∷ []) pfsOfList (pfsIs (event 127))
+    ∷ example oneTarget (measuring 43 90 ∷ measuring 300 200 ∷ measuring 342 0 ∷ []) (SD ∷ PD ∷ CR ∷ []) pfsOfList (pfsIs (censored 43))
     -- the nadir is the least of all earlier sums, and not the last one
     ∷ example oneTarget (measuring 43 50 ∷ measuring 85 55 ∷ measuring 127 60 ∷ []) (PR ∷ PR ∷ PD ∷ []) pfsOfList (pfsIs (event 127))
     -- non-target PD and a new lesion, each alone, are a progression
@@ -187,6 +216,10 @@ further =
     -- where there is no duration it is settled with best response, and where there is one with PFS
     ∷ example oneTarget (measuring 43 90 ∷ therapy 50 ∷ []) (SD ∷ []) durationSettledOfList (is true)
     ∷ example oneTarget (measuring 43 60 ∷ measuring 85 60 ∷ therapy 90 ∷ []) (PR ∷ PR ∷ []) durationSettledOfList (is false)
+    -- by the rule of an assessed baseline: a progression settles it before day 93, and the latest day does not; baseline missing, with best response
+    ∷ example oneTarget (measuring 43 60 ∷ measuring 71 60 ∷ measuring 85 200 ∷ []) (PR ∷ PR ∷ PD ∷ []) durationSettledOfList (is true)
+    ∷ example oneTarget (measuring 43 60 ∷ measuring 127 60 ∷ []) (PR ∷ PR ∷ []) durationSettledOfList (is false)
+    ∷ example missing [] [] durationSettledOfList (is true)
     -- baseline missing: every visit is NE, new lesion or not
     ∷ example missing (visitOn 43 S.NA true [] ∷ death 92 ∷ []) (NE ∷ []) pfsOfList (pfsIs (event 92))
     ∷ example missing (visitOn 43 S.NA true [] ∷ unmeasured 85 ∷ []) (NE ∷ NE ∷ []) bestOfList (bestIs NE)

@@ -1,7 +1,7 @@
 -- Document 01, "Settled" and demand 3: each mark is true exactly when no lawful run of further records changes its part of the outcome.
 -- Assumes nothing.
 use mathlib.Core.Bool.{true}
-use mathlib.Core.List.{List, [], _∷_, _++_, reverse}
+use mathlib.Core.List.{List, _∷_, _++_, reverse}
 use mathlib.Core.Path.{_≡_}
 use mathlib.Core.Logic.{_↔_}
 use Rattle.endpoints.specs.Values.{Outcome}

@@ -31,6 +31,7 @@ whole-files =
       twelveBytes = refl;
       kind0 = refl;
       visitFirst = refl;
+      visitBeforeBaseline = refl;
       laterKind0 = refl;
       secondBaseline = refl;
       afterDeath = refl;

@@ -81,6 +81,7 @@ pub record WholeFiles : Type 0 where
   -- the first record: 2 to 5, then 7
   pub kind0 : verdictOf (eleven []) ≡ refused 2 0
   pub visitFirst : verdictOf printedVisitBytes ≡ refused 7 0
+  pub visitBeforeBaseline : verdictOf (printedVisitBytes ++ printedBytes) ≡ refused 7 0
   -- later ones: 2 to 5, then 8 to 11, with the record's index
   pub laterKind0 : verdictOf (printedBytes ++ eleven []) ≡ refused 2 1
   pub secondBaseline : verdictOf (printedBytes ++ printedBytes) ≡ refused 8 1

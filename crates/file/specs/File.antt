@@ -13,7 +13,6 @@ use Rattle.codec.specs.Reading.{refusalsOfBytes, recordOfBytes}
 use Rattle.parts.specs.Parts.{badLength, partsOf}
 use Rattle.endpoints.specs.Values.{Day, none, on, Pfs, Duration, exists, Outcome}
 use Rattle.endpoints.specs.StudyRecords.{Baseline, StudyRecord, onStudyDays, fromBaseline}
-use Rattle.endpoints.specs.Lawful.{Past}
 use Rattle.endpoints.specs.Course.{Course, course, counting}
 use Rattle.endpoints.specs.Pfs.{pfs}
 use Rattle.endpoints.specs.Best.{firstResponse, duration}

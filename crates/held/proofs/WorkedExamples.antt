@@ -3,9 +3,16 @@
 -- Assumes nothing.
 use mathlib.Core.Path.{refl}
 use Rattle.dates.specs.Calendar.{leapYear, daysInMonth, dateExists}
+use Rattle.criteria.specs.Sums.{measuredSum, baselineSum, allMeasured}
+use Rattle.criteria.specs.Targets.{allGone, grown, shrunk, targetAnswer}
+use Rattle.criteria.specs.Nadir.{afterVisit}
+use Rattle.criteria.specs.Overall.{overallBy}
+use Rattle.criteria.specs.Visits.{overallAnswer}
+use Rattle.endpoints.specs.Course.{answerAt}
 use Rattle.held.specs.Range.{enrolmentInRange, followUpInRange, inRange}
 use Rattle.held.specs.Visits.{eventAfter, countedAfter}
-use Rattle.held.specs.Examples.{RangeAtTheEdges, EventsAfter, CountsAfter, BestInOrder}
+use Rattle.held.specs.Summary.{eventOf, countedOf, summary}
+use Rattle.held.specs.Examples.{RangeAtTheEdges, EventsAfter, CountsAfter, BestInOrder, StartsOfCR, EventsOfVisits, CountsOfVisits, HeldOfRecords}
 
 pub range-at-the-edges : RangeAtTheEdges
 unfolding leapYear daysInMonth dateExists enrolmentInRange followUpInRange inRange
@@ -55,3 +62,61 @@ counts-after =
 
 pub best-in-order : BestInOrder
 best-in-order = record { words = refl; cr = refl; pr = refl; sd = refl; pd = refl; ne = refl }
+
+pub starts-of-cr : StartsOfCR
+starts-of-cr =
+    record {
+      noVisit = refl;
+      crCR = refl;
+      crNE = refl;
+      crNECR = refl;
+      neCR = refl;
+      prCR = refl;
+      ended = refl;
+      crPRCR = refl;
+      endedBeforeNE = refl;
+    }
+
+pub events-of-visits : EventsOfVisits
+unfolding eventOf
+events-of-visits =
+    record {
+      noVisit = refl;
+      ne43 = refl;
+      sdNE = refl;
+      pd43 = refl;
+      nePD = refl;
+      sdNEPD = refl;
+      sdLater = refl;
+      pdLater = refl;
+    }
+
+pub counts-of-visits : CountsOfVisits
+unfolding countedOf
+counts-of-visits =
+    record {
+      noVisit = refl;
+      crNECR = refl;
+      crPRCR = refl;
+      prCRCR = refl;
+      sdPR = refl;
+      sd35 = refl;
+      crPD = refl;
+      pd43 = refl;
+    }
+
+pub held-of-records : HeldOfRecords
+unfolding measuredSum baselineSum allMeasured allGone grown shrunk targetAnswer afterVisit overallBy overallAnswer answerAt eventOf countedOf summary
+held-of-records =
+    record {
+      opened = refl;
+      visited = refl;
+      progressed = refl;
+      complete = refl;
+      treated = refl;
+      treatedLast = refl;
+      dead = refl;
+      deadAfterTherapy = refl;
+      afterProgression = refl;
+      withoutBaseline = refl;
+    }

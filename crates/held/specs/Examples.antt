@@ -1,13 +1,14 @@
--- Document 01, "Where a call stops", 12: subjects on either side of each limit; "Outcome": what one visit more makes of what is held; and the subject of
--- the printed example. Proved in proofs/WorkedExamples.antt.
+-- Document 01, "Where a call stops", 12: subjects on either side of each limit; "Outcome": what one visit more makes of what is held, and what is held of
+-- a list of visits and of a list of records, those of the printed example among them. Proved in proofs/WorkedExamples.antt.
 -- Assumes nothing.
 use mathlib.Core.Path.{_≡_}
 use mathlib.Core.Bool.{Bool, true, false}
-use mathlib.Core.List.{List, [], _∷_, map}
+use mathlib.Core.List.{List, [], _∷_, map, reverse}
 use Prim.Native.Nat.{ℕ}
 use Rattle.dates.specs.declared.Date.{Date}
 use Rattle.dates.specs.declared.StudyDay.{StudyDay}
 use Rattle.dates.specs.Laws.{ymd}
+use Rattle.records.specs.declared.Status.the-variants as S
 use Rattle.records.specs.Examples.{fivePlaces}
 use Rattle.criteria.specs.Words.{Word, CR, PR, SD, PD, NE}
 use Rattle.criteria.specs.declared.BaselineDisease.{BaselineDisease}
@@ -15,9 +16,14 @@ use Rattle.endpoints.specs.declared.BestResponse.{BestResponse}
 use Rattle.endpoints.specs.declared.BestResponse.the-variants as B
 use Rattle.endpoints.specs.declared.MaybeDay.{MaybeDay}
 use Rattle.endpoints.specs.declared.MaybeDay.the-variants as M
+use Rattle.endpoints.specs.Values.{Day, none, on}
+use Rattle.endpoints.specs.StudyRecords.{Baseline, StudyRecord, therapy, death}
 use Rattle.endpoints.specs.Course.{Judged}
+use Rattle.endpoints.specs.Examples.{oneTarget, withNode, missing, visitOn, measuring, unmeasured}
+use Rattle.endpoints.specs.FurtherExamples.{visit43, visit85, visit127}
 use Rattle.held.specs.Range.{inRange}
 use Rattle.held.specs.Visits.{bestFrom, betterOf, eventAfter, countedAfter}
+use Rattle.held.specs.Summary.{crStart, eventOf, countedOf, summary}
 use Rattle.held.specs.declared.EventDays.{EventDays}
 use Rattle.held.specs.declared.CountingVisits.{CountingVisits}
 use Rattle.held.specs.declared.Subject.{Subject}
@@ -53,10 +59,10 @@ disease assessed count sum = record { assessed = assessed; count = count; nodes 
 
 -- by randomisation date, non-target disease, what the baseline leaves, nadir, latest day, therapy, death, and what visits left
 abbrev pub subjectWith : Date → Bool → BaselineDisease → ℕ → ℕ → Bool → MaybeDay → EventDays → CountingVisits → Subject
-subjectWith randomisation nontarget baseline nadir latest therapy death event counted =
+subjectWith randomisation nontarget baseline nadir latest treated dead event counted =
     record {
       enrolment = record { randomisation = randomisation; nontarget = nontarget; disease = baseline };
-      followup = record { earlier = record { nadir = nadir }; latestday = day latest; treated = therapy; deathday = death; event = event; counted = counted };
+      followup = record { earlier = record { nadir = nadir }; latestday = day latest; treated = treated; deathday = dead; event = event; counted = counted };
     }
 
 -- the subject of the printed example, by nadir, latest day, therapy, death, and what visits left
@@ -149,3 +155,87 @@ pub record BestInOrder : Type 0 where
   pub sd : map (betterOf B.SD) responses ≡ B.CR ∷ B.PR ∷ B.SD ∷ B.SD ∷ B.SD ∷ []
   pub pd : map (betterOf B.PD) responses ≡ B.CR ∷ B.PR ∷ B.SD ∷ B.PD ∷ B.PD ∷ []
   pub ne : map (betterOf B.NE) responses ≡ responses
+
+-- what is held of a list of visits in the order recorded
+abbrev pub startOf : List Judged → Day
+startOf js = crStart (reverse js)
+
+abbrev pub eventsOf : List Judged → EventDays
+eventsOf js = eventOf (reverse js)
+
+abbrev pub countsOf : List Judged → CountingVisits
+countsOf js = countedOf (reverse js)
+
+-- the first CR since which every visit was CR or NE
+pub record StartsOfCR : Type 0 where
+  pub noVisit : startOf [] ≡ none
+  pub crCR : startOf (seen 43 CR ∷ seen 71 CR ∷ []) ≡ on 43
+  pub crNE : startOf (seen 43 CR ∷ seen 71 NE ∷ []) ≡ on 43
+  pub crNECR : startOf (seen 43 CR ∷ seen 71 NE ∷ seen 99 CR ∷ []) ≡ on 43
+  pub neCR : startOf (seen 43 NE ∷ seen 71 CR ∷ []) ≡ on 71
+  pub prCR : startOf (seen 43 PR ∷ seen 71 CR ∷ []) ≡ on 71
+  -- any other answer ends the run, and the next CR starts one
+  pub ended : map (λ (w : Word). startOf (seen 43 CR ∷ seen 71 w ∷ [])) (PR ∷ SD ∷ PD ∷ []) ≡ none ∷ none ∷ none ∷ []
+  pub crPRCR : startOf (seen 43 CR ∷ seen 71 PR ∷ seen 99 CR ∷ []) ≡ on 99
+  pub endedBeforeNE : startOf (seen 43 CR ∷ seen 71 SD ∷ seen 99 NE ∷ []) ≡ none
+
+-- progression is the first PD; v is the last visit recorded before it, evaluable or not, or day 1; and the last evaluable visit before it
+pub record EventsOfVisits : Type 0 where
+  pub noVisit : eventsOf [] ≡ noEvents
+  pub ne43 : eventsOf (seen 43 NE ∷ []) ≡ events M.Absent 43 M.Absent
+  pub sdNE : eventsOf (seen 43 SD ∷ seen 85 NE ∷ []) ≡ events M.Absent 85 (onDay 43)
+  pub pd43 : eventsOf (seen 43 PD ∷ []) ≡ events (onDay 43) 1 M.Absent
+  pub nePD : eventsOf (seen 43 NE ∷ seen 85 PD ∷ []) ≡ events (onDay 85) 43 M.Absent
+  pub sdNEPD : eventsOf (seen 43 SD ∷ seen 85 NE ∷ seen 127 PD ∷ []) ≡ events (onDay 127) 85 (onDay 43)
+  -- a visit behind the progression moves none of them
+  pub sdLater : eventsOf (seen 43 SD ∷ seen 85 NE ∷ seen 127 PD ∷ seen 169 SD ∷ []) ≡ events (onDay 127) 85 (onDay 43)
+  pub pdLater : eventsOf (seen 43 SD ∷ seen 85 NE ∷ seen 127 PD ∷ seen 169 PD ∷ []) ≡ events (onDay 127) 85 (onDay 43)
+
+-- the first counting CR or PR, the start of the last run of CR, and the best response that the counting visits show
+pub record CountsOfVisits : Type 0 where
+  pub noVisit : countsOf [] ≡ noCounts
+  pub crNECR : countsOf (seen 43 CR ∷ seen 71 NE ∷ seen 99 CR ∷ []) ≡ counts (onDay 43) (onDay 43) B.CR
+  pub crPRCR : countsOf (seen 43 CR ∷ seen 71 PR ∷ seen 99 CR ∷ []) ≡ counts (onDay 43) (onDay 99) B.PR
+  pub prCRCR : countsOf (seen 43 PR ∷ seen 71 CR ∷ seen 99 CR ∷ []) ≡ counts (onDay 43) (onDay 71) B.CR
+  pub sdPR : countsOf (seen 43 SD ∷ seen 71 PR ∷ []) ≡ counts (onDay 71) M.Absent B.SD
+  pub sd35 : countsOf (seen 35 SD ∷ []) ≡ noCounts
+  pub crPD : countsOf (seen 43 CR ∷ seen 71 PD ∷ []) ≡ counts (onDay 43) M.Absent B.SD
+  pub pd43 : countsOf (seen 43 PD ∷ []) ≡ counts M.Absent M.Absent B.PD
+
+-- what is held after a baseline of 2020-01-01 and the records behind it, in the order recorded
+abbrev pub heldAfter : Baseline → List StudyRecord → Subject
+heldAfter b rs = summary (ymd 2020 1 1) b (reverse rs)
+
+-- a subject with one target of 100 and no other disease, by nadir, latest day, therapy, death, and what visits left
+abbrev pub oneTargetWith : ℕ → ℕ → Bool → MaybeDay → EventDays → CountingVisits → Subject
+oneTargetWith = subjectWith (ymd 2020 1 1) false (record { assessed = true; count = 1; nodes = fivePlaces false []; sum = 100 })
+
+-- a subject with baseline missing, by the same
+abbrev pub missingWith : ℕ → ℕ → Bool → MaybeDay → EventDays → CountingVisits → Subject
+missingWith = subjectWith (ymd 2020 1 1) false (record { assessed = false; count = 0; nodes = fivePlaces false []; sum = 0 })
+
+pub record HeldOfRecords : Type 0 where
+  -- the printed example: after its baseline, its first visit, and its last
+  pub opened : heldAfter withNode [] ≡ printedOpened
+  pub visited : heldAfter withNode (visit43 ∷ []) ≡ printedVisited
+  pub progressed : heldAfter withNode (visit43 ∷ visit85 ∷ visit127 ∷ [])
+      ≡ printedWith 9 127 false M.Absent (events (onDay 127) 85 (onDay 85)) (counts (onDay 43) M.Absent B.PR)
+  -- CR 43, NE 71, CR 99
+  pub complete : heldAfter oneTarget (measuring 43 0 ∷ unmeasured 71 ∷ measuring 99 0 ∷ [])
+      ≡ oneTargetWith 0 99 false M.Absent (events M.Absent 99 (onDay 99)) (counts (onDay 43) (onDay 43) B.CR)
+  -- PR 43, therapy 50, CR 85: the visit behind the therapy moves the nadir, v and the last evaluable visit, and does not count
+  pub treated : heldAfter oneTarget (measuring 43 60 ∷ therapy 50 ∷ measuring 85 0 ∷ [])
+      ≡ oneTargetWith 0 85 true M.Absent (events M.Absent 85 (onDay 85)) (counts (onDay 43) M.Absent B.SD)
+  -- a therapy behind a visit moves the latest day, and not v
+  pub treatedLast : heldAfter oneTarget (measuring 43 90 ∷ therapy 50 ∷ [])
+      ≡ oneTargetWith 90 50 true M.Absent (events M.Absent 43 (onDay 43)) (counts M.Absent M.Absent B.SD)
+  -- so does a death
+  pub dead : heldAfter oneTarget (measuring 43 90 ∷ unmeasured 85 ∷ death 100 ∷ [])
+      ≡ oneTargetWith 90 100 false (onDay 100) (events M.Absent 85 (onDay 43)) (counts M.Absent M.Absent B.SD)
+  pub deadAfterTherapy : heldAfter oneTarget (therapy 50 ∷ death 100 ∷ []) ≡ oneTargetWith 100 100 true (onDay 100) noEvents noCounts
+  -- PD 43, CR 85: the visit behind the progression moves the nadir and the latest day alone
+  pub afterProgression : heldAfter oneTarget (measuring 43 200 ∷ measuring 85 0 ∷ [])
+      ≡ oneTargetWith 0 85 false M.Absent (events (onDay 43) 1 M.Absent) (counts M.Absent M.Absent B.PD)
+  -- baseline missing: a visit is NE, new lesion or not
+  pub withoutBaseline : heldAfter missing (visitOn 43 S.NA true [] ∷ [])
+      ≡ missingWith 0 43 false M.Absent (events M.Absent 43 M.Absent) noCounts

@@ -12,7 +12,6 @@ use Rattle.dates.specs.Calendar.{dateExists}
 use Rattle.records.specs.declared.BaselineEntry.{BaselineEntry}
 use Rattle.records.specs.Refusals.{mostTargets, largestSize}
 use Rattle.criteria.specs.Sums.{sumWhere, baselineSum}
-use Rattle.criteria.specs.Overall.{evaluable}
 use Rattle.held.specs.Range.{enrolmentInRange, inRange}
 use Rattle.opening.specs.Opening.{firstSubject, blank}
 use Rattle.held.specs.Laws.{SubjectWithin}

@@ -7,7 +7,7 @@ use Prim.Native.Nat.{ℕ, zero, suc}
 use lib.Dec.{ltb, eqb}
 use lib.ListN.{getD}
 use borrow.Author.Tests.{eqb-true, eqb-false}
-use Rattle.laws.specs.Choice.{both, either, pick}
+use Rattle.laws.specs.Choice.{both, either}
 use Rattle.laws.specs.Refusals.{_when_}
 use Rattle.laws.proofs.Cases.{Some, pick-some}
 use Rattle.laws.proofs.Refusals.{among, each-append}

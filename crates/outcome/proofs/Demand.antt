@@ -1,7 +1,7 @@
 -- Demand 3: by induction on the calls, the subject is what is held after the records accepted so far.
 -- Assumes nothing.
 use mathlib.Core.Path.{_≡_, refl, sym, ap, _∙_, subst}
-use mathlib.Core.Bool.{Bool, true, false, not}
+use mathlib.Core.Bool.{Bool, true, false}
 use mathlib.Core.List.{List, [], _∷_, _++_, map, map-append, reverse, reverse-append}
 use Prim.Native.Nat.{ℕ}
 use native.Mathlib.Omega.{arith}
