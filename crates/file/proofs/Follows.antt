@@ -46,7 +46,7 @@ use Rattle.outcome.proofs.Follows.{pfs-held, duration-held, outcome-held}
 use Rattle.outcome.proofs.Within.{calls-in-range, reading-in-range}
 use Rattle.outcome.proofs.Demand.{opened-with, base, on-day, past, past-one-more, Held, number, responses, grown}
 use Rattle.file.specs.declared.FileAnswer.{FileAnswer}
-use Rattle.file.specs.File.{refusalOfPart, Verdict, refused, accepted, startsLate, verdictOn, fileValues}
+use Rattle.file.specs.File.{refusalOfPart, Verdict, refused, accepted, unlessRefused, startsLate, verdictOn, fileValues}
 use Rattle.file.specs.Ending.{verdictHeld, Ends}
 
 -- the subject is what is held after the records, which open with a baseline that 4 and 5 do not meet
@@ -172,7 +172,7 @@ module _ {rs : List Record} {s : Subject} (t : Taken rs s) (last : ℕ) where
   held = summary (t .entry .date) b p
 
   abbrev verdictIn : Subject → Verdict
-  verdictIn u = pick (startsLate (durationHeld u) (dayValue (u .followup .counted .firstresponse)) (pfsHeld u)) (refused 14 last) (accepted (outcomeOf u))
+  verdictIn u = unlessRefused (14 when startsLate (durationHeld u) (dayValue (u .followup .counted .firstresponse)) (pfsHeld u) ∷ []) last (accepted (outcomeOf u))
 
   inside : verdictHeld s last ≡ verdictIn s
   unfolding verdictHeld
@@ -185,7 +185,7 @@ module _ {rs : List Record} {s : Subject} (t : Taken rs s) (last : ℕ) where
   verdict-held : verdictIn held ≡ verdictOn (onStudyDays (opened-with (t .entry) (t .marks) (t .sizes) ∷ t .later)) last
   verdict-held =
       λ i.
-      pick (startsLate (duration-held (t .entry .date) b p i) (first-held i) (pfs-held (t .entry .date) b p i)) (refused 14 last)
+      unlessRefused (14 when startsLate (duration-held (t .entry .date) b p i) (first-held i) (pfs-held (t .entry .date) b p i) ∷ []) last
       (accepted (outcome-held (t .entry .date) b p i))
 
   verdict-taken : verdictIn s ≡ verdictOn (onStudyDays rs) last
@@ -194,7 +194,7 @@ module _ {rs : List Record} {s : Subject} (t : Taken rs s) (last : ℕ) where
   pub told-verdict : {q : OutcomeAnswer} → Told s q → EndsBy (verdictOn (onStudyDays rs) last) last q
   told-verdict {q} w = rw (← verdict-taken) (go (startsLate (durationHeld s) (dayValue (s .followup .counted .firstresponse)) (pfsHeld s)))
     where
-      go : (late : Bool) → EndsBy (pick late (refused 14 last) (accepted (outcomeOf s))) last q
+      go : (late : Bool) → EndsBy (unlessRefused (14 when late ∷ []) last (accepted (outcomeOf s))) last q
       go true = inl refl
       go false = inr (outcomeOf s, w .answer ∙ reading-in-range s (t .held .inside), refl)
 

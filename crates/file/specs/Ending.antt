@@ -1,21 +1,22 @@
 -- Document 01, "Where a call stops", 14: what ending a file promises, on the held subject.
 -- Assumes nothing.
 use mathlib.Core.Path.{_≡_}
+use mathlib.Core.Bool.{not}
+use mathlib.Core.List.{[], _∷_}
 use Prim.Native.Nat.{ℕ}
-use Rattle.laws.specs.Choice.{pick}
+use Rattle.laws.specs.Refusals.{_when_}
 use Rattle.endpoints.specs.Values.{dayValue}
 use Rattle.held.specs.declared.Subject.{Subject}
 use Rattle.held.specs.Range.{inRange}
 use Rattle.outcome.specs.Promises.{pfsHeld, durationHeld, outcomeOf}
 use Rattle.file.specs.declared.FileAnswer.{FileAnswer}
-use Rattle.file.specs.File.{Verdict, refused, accepted, startsLate, fileValues}
+use Rattle.file.specs.File.{Verdict, accepted, unlessRefused, startsLate, fileValues}
 
 -- behind the last record: 12, which no subject of a file meets, or 14, or the outcome
 unfoldable pub verdictHeld : Subject → ℕ → Verdict
 verdictHeld s last =
-    pick (inRange s)
-    (pick (startsLate (durationHeld s) (dayValue (s .followup .counted .firstresponse)) (pfsHeld s)) (refused 14 last) (accepted (outcomeOf s)))
-    (refused 12 last)
+    unlessRefused (12 when not (inRange s) ∷ 14 when startsLate (durationHeld s) (dayValue (s .followup .counted .firstresponse)) (pfsHeld s) ∷ []) last
+    (accepted (outcomeOf s))
 
 pub record Ends (s : Subject) (last : ℕ) (a : FileAnswer) : Type 0 where
   pub answer : fileValues a ≡ verdictHeld s last

@@ -7,7 +7,7 @@ use Prim.Native.Nat.{ℕ, suc, _-_}
 use lib.Dec.{ltb, eqb}
 use lib.ListN.{length}
 use Rattle.laws.specs.Choice.{both, pick}
-use Rattle.laws.specs.Refusals.{Refusal, first}
+use Rattle.laws.specs.Refusals.{Refusal, _when_, first}
 use Rattle.records.specs.declared.Record.{Record}
 use Rattle.codec.specs.Reading.{refusalsOfBytes, recordOfBytes}
 use Rattle.parts.specs.Parts.{badLength, partsOf}
@@ -35,6 +35,10 @@ pub data Verdict : Type 0 where
   refused : ℕ → ℕ → Verdict
   accepted : Outcome → Verdict
 
+-- the first of a place's refusals that meets, with the index of a record, or what comes after them
+abbrev pub unlessRefused : List Refusal → ℕ → Verdict → Verdict
+unlessRefused rs k after = pick (eqb (first rs) 0) after (refused (first rs) k)
+
 abbrev pub isAfter : Day → ℕ → Bool
 isAfter none d = false
 isAfter (on first) d = ltb d first
@@ -51,18 +55,18 @@ abbrev pub verdictOn : List StudyRecord → ℕ → Verdict
 verdictOn rs last =
     fromBaseline (refused 7 last)
     (λ (b : Baseline) (rs : List StudyRecord).
-    pick (responseStartsLate (course b (reverse rs))) (refused 14 last) (accepted (outcomeInOrder b rs)))
+    unlessRefused (14 when responseStartsLate (course b (reverse rs)) ∷ []) last (accepted (outcomeInOrder b rs)))
     rs
 
 -- the records from index k on, behind those accepted: the first bad one stops it, with its index
 abbrev pub verdictFrom : List Record → ℕ → List (List ℕ) → Verdict
 verdictFrom rs k [] = verdictOn (onStudyDays rs) (k - 1)
 verdictFrom rs k (part ∷ ps) =
-    pick (eqb (refusalOfPart rs part) 0) (verdictFrom (rs ++ (recordOfBytes part ∷ [])) (suc k) ps) (refused (refusalOfPart rs part) k)
+    unlessRefused (refusalsOfPart rs part) k (verdictFrom (rs ++ (recordOfBytes part ∷ [])) (suc k) ps)
 
 -- 13 first, with index 0
 unfoldable pub verdictOf : List ℕ → Verdict
-verdictOf s = pick (badLength (length s)) (refused 13 0) (verdictFrom [] 0 (partsOf s))
+verdictOf s = unlessRefused (13 when badLength (length s) ∷ []) 0 (verdictFrom [] 0 (partsOf s))
 
 -- the declared cases
 abbrev pub fileValues : FileAnswer → Verdict

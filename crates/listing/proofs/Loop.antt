@@ -6,7 +6,7 @@ use mathlib.Core.List.{List, [], _∷_, _++_, map, append-nil}
 use Prim.Native.Nat.{ℕ, _+_, _-_, _/_, _≤_, _<_}
 use native.Mathlib.Omega.{arith}
 use lib.ListN.{length, take}
-use Rattle.laws.specs.Choice.{pick}
+use Rattle.laws.specs.Refusals.{_when_}
 use Rattle.records.specs.declared.Record.{Record}
 use Rattle.records.specs.Form.{dateOf}
 use Rattle.codec.specs.Bytes.{recordLength}
@@ -28,7 +28,7 @@ use Rattle.outcome.proofs.Within.{calls-in-range, reading-in-range}
 use Rattle.outcome.proofs.Runs.{readable}
 use Rattle.file.specs.declared.FileAnswer.{FileAnswer}
 use Rattle.parts.specs.Parts.{mostRecords, mostBytes, badLength, partsOf}
-use Rattle.file.specs.File.{refused, accepted, startsLate, verdictOf, fileValues, Judges}
+use Rattle.file.specs.File.{refused, accepted, unlessRefused, startsLate, verdictOf, fileValues, Judges}
 use Rattle.file.specs.Ending.{verdictHeld, Ends}
 use Rattle.file.proofs.Verdicts.{apart, accepted-same}
 use Rattle.parts.proofs.Cut.{partAt}
@@ -113,7 +113,8 @@ module _ (l page₀ page : List ℕ) (s : Subject) (at k : ℕ) (w : Printing l 
   judged : Judges l a
   judged = ended l s k (w .standing) h a v
 
-  inside : fileValues a ≡ pick (startsLate (durationHeld s) (dayValue (s .followup .counted .firstresponse)) (pfsHeld s)) (refused 14 (k - 1)) (accepted (outcomeOf s))
+  inside : fileValues a
+      ≡ unlessRefused (14 when startsLate (durationHeld s) (dayValue (s .followup .counted .firstresponse)) (pfsHeld s) ∷ []) (k - 1) (accepted (outcomeOf s))
   unfolding verdictHeld
   inside = v .answer ∙ rw (w .standing .taken .held .inside)
 
@@ -125,14 +126,14 @@ module _ (l page₀ page : List ℕ) (s : Subject) (at k : ℕ) (w : Printing l 
   small : SmallIndex (fileValues a)
   small = subst SmallIndex (sym inside) (go (startsLate (durationHeld s) (dayValue (s .followup .counted .firstresponse)) (pfsHeld s)))
     where
-      go : (late : Bool) → SmallIndex (pick late (refused 14 (k - 1)) (accepted (outcomeOf s)))
+      go : (late : Bool) → SmallIndex (unlessRefused (14 when late ∷ []) (k - 1) (accepted (outcomeOf s)))
       go true = omega arith
       go false = tt
 
   told : (o : Outcome) → verdictOf l ≡ accepted o → TellsWithin (outcome o)
   told o e = go (startsLate (durationHeld s) (dayValue (s .followup .counted .firstresponse)) (pfsHeld s)) (sym inside ∙ judged .answer ∙ e)
     where
-      go : (late : Bool) → pick late (refused 14 (k - 1)) (accepted (outcomeOf s)) ≡ accepted o → TellsWithin (outcome o)
+      go : (late : Bool) → unlessRefused (14 when late ∷ []) (k - 1) (accepted (outcomeOf s)) ≡ accepted o → TellsWithin (outcome o)
       go true q = absurd (apart refl q)
       go false q = subst (λ (u : Outcome). TellsWithin (outcome u)) (accepted-same q) tells
 

@@ -9,6 +9,7 @@ use lib.Dec.{eqb}
 use lib.ListN.{length, drop, length-append, length-reverse, length-map}
 use borrow.Author.Tests.{eqb-true}
 use Rattle.laws.specs.Choice.{pick}
+use Rattle.laws.specs.Refusals.{_when_}
 use Rattle.records.specs.declared.BaselineEntry.{BaselineEntry}
 use Rattle.records.specs.declared.Record.{Record}
 use Rattle.records.proofs.Passed.{none-after-own}
@@ -33,7 +34,7 @@ use Rattle.outcome.proofs.Runs.{opens, readable}
 use Rattle.outcome.proofs.Answers.{some-addition}
 use Rattle.outcome.proofs.Demand.{opened-with, base, on-day, past, past-one-more, Held, grown, reading}
 use Rattle.parts.specs.Parts.{mostRecords, badLength, parts, partsOf}
-use Rattle.file.specs.File.{refusalOfPart, refused, accepted, responseStartsLate, verdictFrom, verdictOf}
+use Rattle.file.specs.File.{refusalOfPart, refused, accepted, unlessRefused, responseStartsLate, verdictFrom, verdictOf}
 use Rattle.file.proofs.Follows.{none-read, opened-taken}
 use Rattle.parts.proofs.Cut.{fair-length, length-parts}
 use Rattle.text.specs.Text.{outcomeText, refusalText, linesText, listingText, listingOf, longestListing}
@@ -95,7 +96,7 @@ module _ (x : BaselineEntry) (marks : List Bool) (sizes : List ℕ) (passes : fi
     ended-short k l = rw (append-nil later) (go (responseStartsLate (course b (behind later))))
       where
         go : (late : Bool) →
-            length (listingText (pick late (refused 14 (k - 1)) (accepted (outcome b (behind later)))) (onStudyDays (whole later))) ≤ 24 * length later + 47
+            length (listingText (unlessRefused (14 when late ∷ []) (k - 1) (accepted (outcome b (behind later)))) (onStudyDays (whole later))) ≤ 24 * length later + 47
         go true = omega (arith, refusal-length 14 (k - 1) (omega arith) (omega arith))
         go false = accepted-short
 
@@ -172,7 +173,7 @@ unfolding listingOf verdictOf
 listing-short s = go (badLength (length s)) refl
   where
     go : (z : Bool) → badLength (length s) ≡ z →
-        length (listingText (pick z (refused 13 0) (verdictFrom [] 0 (partsOf s))) (onStudyDays (map recordOfBytes (partsOf s)))) ≤ longestListing
+        length (listingText (unlessRefused (13 when z ∷ []) 0 (verdictFrom [] 0 (partsOf s))) (onStudyDays (map recordOfBytes (partsOf s)))) ≤ longestListing
     go true q = omega (arith, refusal-length 13 0 (omega arith) (omega arith))
     go false q =
         let fair = fair-length (length s) q in
