@@ -34,6 +34,7 @@ late-at-the-edges =
       withoutDuration = refl;
       last = refl;
       outOfRange = refl;
+      lateOutOfRange = refl;
       heldLate = refl;
       heldOnTime = refl;
     }

@@ -48,6 +48,8 @@ pub record LateAtTheEdges : Type 0 where
   pub last : verdictFrom fallingDays 4 [] ≡ refused 14 3
   -- and on the held subject, behind 12
   pub outOfRange : verdictHeld O.blank 3 ≡ refused 12 3
+  pub lateOutOfRange : verdictHeld (heldWith true 0 false M.Absent (events M.Absent 50 (onDay 50)) (counts (onDay 90) M.Absent B.PR)) 3
+      ≡ refused 12 3
   pub heldLate : verdictHeld (heldWith true 120 false M.Absent (events M.Absent 50 (onDay 50)) (counts (onDay 90) M.Absent B.PR)) 3
       ≡ refused 14 3
   pub heldOnTime : verdictHeld (heldWith true 120 false M.Absent (events M.Absent 120 (onDay 120)) (counts (onDay 90) M.Absent B.PR)) 3
