@@ -37,7 +37,7 @@ use Rattle.placing.specs.declared.AddAnswer.the-variants as A
 use Rattle.placing.specs.declared.Dated.{Dated}
 use Rattle.placing.specs.declared.Step.{Step}
 use Rattle.placing.specs.declared.VisitResponse.{VisitResponse}
-use Rattle.placing.specs.Added.{answerOn, judgedAdded, visitAdded, therapyAdded, deathAdded}
+use Rattle.placing.specs.Added.{answerOn, judgedAs, judgedAdded, visitAdded, therapyAdded, deathAdded}
 use Rattle.placing.specs.Lines.{responseValues, addResponses}
 use Rattle.placing.specs.Refusals.{addNumber, refusalsBy, refusalsOn}
 use Rattle.placing.specs.Stepping.{StepsBy, firstRefusal, Steps, StepsLater}
@@ -89,10 +89,10 @@ pub counted-or-closed : (closed : Bool) (c r : CountingVisits) (j : Judged) → 
 counted-or-closed closed c r j q h = h ∙ rw q
 
 pub visit-made : (f : FollowUp) (day : StudyDay) (a : VisitAnswer) (x : Bool) (e : EventDays) (c : CountingVisits) →
-    x ≡ isRecorded (dayValue (f .event .progression)) → e ≡ eventAfter (f .event) (record { day = day .0; answer = overallWord (a .overall) }) →
-    c ≡ pick (f .treated || x) (f .counted) (countedAfter (f .counted) (record { day = day .0; answer = overallWord (a .overall) })) →
+    x ≡ isRecorded (dayValue (f .event .progression)) → e ≡ eventAfter (f .event) (judgedAs day a) →
+    c ≡ pick (f .treated || x) (f .counted) (countedAfter (f .counted) (judgedAs day a)) →
     record { earlier = a .after; latestday = day; treated = f .treated; deathday = f .deathday; event = e; counted = c }
-    ≡ judgedAdded f (a .after) (record { day = day .0; answer = overallWord (a .overall) })
+    ≡ judgedAdded f (a .after) (judgedAs day a)
 visit-made f day a x e c p q r = rw (q, r, p)
 
 -- ---- the first refusal
@@ -132,7 +132,7 @@ no-responses (A.Refused own) n q = refl
 
 pub visit-placed : (e : Enrolment) (f next : FollowUp) (day : StudyDay) (v : VisitEntry) (measured : List Bool) (sizes : List ℕ) (a : VisitAnswer) (r : VisitResponse) →
     JudgesVisit (e .disease) (f .earlier) (visitOf v measured sizes) a →
-    next ≡ judgedAdded f (a .after) (record { day = day .0; answer = overallWord (a .overall) }) →
+    next ≡ judgedAdded f (a .after) (judgedAs day a) →
     responseValues r
     ≡ record { day = day .0; target = targetWord (a .target); nontarget = statusWord (v .status); overall = overallWord (a .overall); change = changeValues (a .change) } →
     StepsBy e f day (E.Visit v) measured sizes 0 (record { followup = next; answer = A.Judged r })

@@ -27,13 +27,12 @@ use Rattle.criteria.specs.declared.Earlier.{Earlier}
 use Rattle.endpoints.specs.declared.MaybeDay.{MaybeDay}
 use Rattle.endpoints.specs.declared.MaybeDay.the-variants as M
 use Rattle.endpoints.specs.StudyRecords.{studyDay}
-use Rattle.endpoints.specs.Course.{Judged}
 use Rattle.held.specs.declared.Enrolment.{Enrolment}
 use Rattle.held.specs.declared.FollowUp.{FollowUp}
 use Rattle.held.specs.declared.CountingVisits.{CountingVisits}
 use Rattle.held.specs.Laws.{Within, AbsentOrWithin, CountedWithin, FollowUpWithin}
 use Rattle.held.proofs.Within.{event-within, counted-within}
-use Rattle.placing.specs.Added.{heldDay, answerOn, closedOn, visitAdded, later, therapyAdded, deathAdded, entryAdded}
+use Rattle.placing.specs.Added.{heldDay, judgedOn, closedOn, visitAdded, later, therapyAdded, deathAdded, entryAdded}
 use Rattle.placing.specs.Refusals.{earlyOn, refusalsOn}
 
 pub study-day-most : (randomisation d : Date) → studyDay randomisation d ≤ lastDayNumber
@@ -91,7 +90,7 @@ adding-within e f (E.Visit v) marks sizes w r =
     let behind = leb-false (studyDay (e .randomisation) (v .date)) (f .latestday .0) (not-early e f (heldDay (e .randomisation) (v .date)) (E.Visit v) marks r) in
     let from = w .latestday .0 in
     let day : Within (studyDay (e .randomisation) (v .date)) = (omega arith, most) in
-    let j : Judged = record { day = studyDay (e .randomisation) (v .date); answer = answerOn e f v marks sizes } in
+    let j = judgedOn e f (heldDay (e .randomisation) (v .date)) v marks sizes in
     let least = nadir-least (e .disease) (f .earlier) (visitOf v marks sizes) in
     let nadir = w .nadir in
     record {

@@ -9,11 +9,12 @@ use Rattle.dates.specs.declared.StudyDay.{StudyDay}
 use Rattle.records.specs.declared.Entry.{Entry}
 use Rattle.records.specs.declared.Entry.the-variants as E
 use Rattle.records.specs.declared.VisitEntry.{VisitEntry}
-use Rattle.criteria.specs.Words.{Word}
+use Rattle.criteria.specs.Words.{Word, overallWord}
 use Rattle.criteria.specs.Inputs.{visitOf}
 use Rattle.criteria.specs.Nadir.{afterVisit}
 use Rattle.criteria.specs.Visits.{overallAnswer}
 use Rattle.criteria.specs.declared.Earlier.{Earlier}
+use Rattle.response.specs.declared.VisitAnswer.{VisitAnswer}
 use Rattle.endpoints.specs.declared.MaybeDay.{MaybeDay}
 use Rattle.endpoints.specs.declared.MaybeDay.the-variants as M
 use Rattle.endpoints.specs.Values.{isRecorded, dayValue}
@@ -31,6 +32,13 @@ heldDay randomisation d = at (studyDay randomisation d)
 -- the overall answer at a visit
 unfoldable pub answerOn : Enrolment → FollowUp → VisitEntry → List Bool → List ℕ → Word
 answerOn e f v measured sizes = overallAnswer (e .disease) (f .earlier) (visitOf v measured sizes)
+
+-- the visit as judged, by the definitions and by what judging answers
+abbrev pub judgedOn : Enrolment → FollowUp → StudyDay → VisitEntry → List Bool → List ℕ → Judged
+judgedOn e f day v measured sizes = record { day = day .0; answer = answerOn e f v measured sizes }
+
+abbrev pub judgedAs : StudyDay → VisitAnswer → Judged
+judgedAs day a = record { day = day .0; answer = overallWord (a .overall) }
 
 -- no further visit counts
 abbrev pub closedOn : FollowUp → Bool
@@ -50,7 +58,7 @@ judgedAdded f after j =
 
 unfoldable pub visitAdded : Enrolment → FollowUp → StudyDay → VisitEntry → List Bool → List ℕ → FollowUp
 visitAdded e f day v measured sizes =
-    judgedAdded f (afterVisit (e .disease) (f .earlier) (visitOf v measured sizes)) (record { day = day .0; answer = answerOn e f v measured sizes })
+    judgedAdded f (afterVisit (e .disease) (f .earlier) (visitOf v measured sizes)) (judgedOn e f day v measured sizes)
 
 -- on a later day, with or without a therapy and a death; nothing of the visits changes
 abbrev pub later : FollowUp → StudyDay → Bool → MaybeDay → FollowUp

@@ -10,10 +10,9 @@ use response::VisitAnswer;
 use results::is_recorded;
 ghost use mathlib.Core.Path.{_≡_};
 ghost use Rattle.laws.specs.Choice.{pick};
-ghost use Rattle.criteria.specs.Words.{overallWord};
 ghost use Rattle.endpoints.specs.Course.{judgedValues};
 ghost use Rattle.held.specs.Visits.{countedAfter};
-ghost use Rattle.placing.specs.Added.{judgedAdded, later as laterOn, therapyAdded, deathAdded};
+ghost use Rattle.placing.specs.Added.{judgedAs, judgedAdded, later as laterOn, therapyAdded, deathAdded};
 
 fn counted_unless(closed: bool, c: CountingVisits, visit: JudgedVisit) -> CountingVisits
     ensures { λ r. ⌜ r ≡ pick closed c (countedAfter c (judgedValues visit)) ⌝ }
@@ -25,7 +24,7 @@ fn counted_unless(closed: bool, c: CountingVisits, visit: JudgedVisit) -> Counti
 }
 
 pub(crate) fn after_visit(f: FollowUp, day: StudyDay, judged: VisitAnswer) -> FollowUp
-    ensures { λ r. ⌜ r ≡ judgedAdded f (judged .after) (record { day = day .0; answer = overallWord (judged .overall) }) ⌝ }
+    ensures { λ r. ⌜ r ≡ judgedAdded f (judged .after) (judgedAs day judged) ⌝ }
 {
     let death = f.deathday;
     let before = f.event;
