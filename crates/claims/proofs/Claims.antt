@@ -3,18 +3,18 @@
 use Rattle.laws.proofs.Refusals.{first-laws}
 use Rattle.dates.proofs.Calendar.{calendar-laws}
 use Rattle.writing.proofs.RoundTrip.{round-trips}
-use Rattle.criteria.proofs.Examples.{grid-rows}
-use Rattle.criteria.proofs.Laws.{overall-laws, nadir-laws, change-laws}
-use Rattle.endpoints.proofs.Laws.{list-laws, adding-laws, call-laws}
-use Rattle.endpoints.proofs.Exact.{every-mark-exact}
-use Rattle.endpoints.proofs.InOrder.{every-mark-exact-in-order}
-use Rattle.endpoints.proofs.AtTheEdges.{examples-hold}
-use Rattle.held.proofs.Within.{range-laws}
+use Rattle.response_rules.proofs.Examples.{grid-rows}
+use Rattle.response_rules.proofs.Laws.{overall-laws, nadir-laws, change-laws}
+use Rattle.outcome_rules.proofs.Laws.{list-laws, adding-laws, call-laws}
+use Rattle.outcome_rules.proofs.Exact.{every-mark-exact}
+use Rattle.outcome_rules.proofs.InOrder.{every-mark-exact-in-order}
+use Rattle.outcome_rules.proofs.AtTheEdges.{examples-hold}
+use Rattle.subject.proofs.Within.{range-laws}
 use Rattle.outcome.proofs.Demand.{demand3, held-after-calls}
 use Rattle.outcome.proofs.Within.{calls-in-range}
 use Rattle.file.proofs.Singly.{as-singly}
-use Rattle.text.proofs.Examples.{lines-at-the-edges}
-use Rattle.text.proofs.Lengths.{lengths}
+use Rattle.listing_text.proofs.Examples.{lines-at-the-edges}
+use Rattle.listing_text.proofs.Lengths.{lengths}
 use Rattle.claims.specs.Claims.{Claims}
 
 pub claims : Claims

@@ -4,18 +4,18 @@
 use Rattle.laws.specs.Refusals.{FirstLaws}
 use Rattle.dates.specs.Laws.{CalendarLaws}
 use Rattle.writing.specs.Laws.{RoundTrips}
-use Rattle.criteria.specs.Examples.{GridRows}
-use Rattle.criteria.specs.Laws.{OverallLaws, NadirLaws, ChangeLaws}
-use Rattle.endpoints.specs.Laws.{ListLaws, AddingLaws, CallLaws}
-use Rattle.endpoints.specs.Lasting.{EveryMarkExact, EveryMarkExactInOrder}
-use Rattle.endpoints.specs.Examples.{starred, Hold}
-use Rattle.held.specs.Laws.{RangeLaws}
+use Rattle.response_rules.specs.Examples.{GridRows}
+use Rattle.response_rules.specs.Laws.{OverallLaws, NadirLaws, ChangeLaws}
+use Rattle.outcome_rules.specs.Laws.{ListLaws, AddingLaws, CallLaws}
+use Rattle.outcome_rules.specs.Lasting.{EveryMarkExact, EveryMarkExactInOrder}
+use Rattle.outcome_rules.specs.Examples.{starred, Hold}
+use Rattle.subject.specs.Laws.{RangeLaws}
 use Rattle.outcome.specs.Demand3.{Demand3}
 use Rattle.outcome.specs.HeldAfter.{HeldAfterCalls}
 use Rattle.outcome.specs.Laws.{CallsInRange}
 use Rattle.file.specs.Singly.{AsSingly}
-use Rattle.text.specs.Examples.{LinesAtTheEdges}
-use Rattle.text.specs.Laws.{Lengths}
+use Rattle.listing_text.specs.Examples.{LinesAtTheEdges}
+use Rattle.listing_text.specs.Laws.{Lengths}
 
 pub record Claims : Type 1 where
   -- "Dates and records": day numbers; what is written is read, and what is read is written, byte for byte

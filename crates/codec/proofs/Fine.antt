@@ -12,7 +12,7 @@ use Rattle.laws.specs.Choice.{pick}
 use Rattle.laws.specs.Refusals.{Refusal, first, Each, Numbered}
 use Rattle.laws.proofs.Tests.{both-true}
 use Rattle.laws.proofs.Refusals.{none-meets, first-append}
-use Rattle.packing.specs.Layout.{AreBytes}
+use Rattle.laws.specs.Layout.{AreBytes}
 use Rattle.records.proofs.Passed.{Passes, each-own, passes, no-refusal as no-refusal-of}
 use Rattle.records.specs.Refusals.{refusalOf}
 use Rattle.codec.specs.Bytes.{recordLength, bytesNumber}

@@ -1,4 +1,6 @@
 pub mod AtTheEdges
+pub mod AtTheEdgesOfParts
+pub mod Cut
 pub mod Window
 pub mod Returns
 pub mod Found

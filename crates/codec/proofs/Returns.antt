@@ -8,7 +8,7 @@ use native.Mathlib.Omega.{arith}
 use lib.ListN.{length}
 use borrow.Author.Tests.{eq-eqb, ne-eqb}
 use Rattle.laws.specs.Refusals.{first}
-use Rattle.packing.specs.Layout.{AreBytes}
+use Rattle.laws.specs.Layout.{AreBytes}
 use Rattle.records.specs.Refusals.{ownNumber, checkNumber}
 use Rattle.records.specs.declared.OwnRefusal.{OwnRefusal}
 use Rattle.records.specs.declared.Record.{Record}

@@ -10,7 +10,7 @@ use borrow.Author.Tests.{eq-eqb, eqb-true}
 use Rattle.laws.specs.Choice.{pick}
 use Rattle.laws.specs.Refusals.{first}
 use Rattle.laws.proofs.Tests.{never}
-use Rattle.packing.specs.Layout.{AreBytes}
+use Rattle.laws.specs.Layout.{AreBytes}
 use Rattle.dates.specs.declared.Date.{Date}
 use Rattle.records.specs.declared.Entry.the-variants as E
 use Rattle.records.specs.Form.{dateOf}

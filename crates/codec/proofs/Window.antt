@@ -7,8 +7,8 @@ use native.Mathlib.Nat.{one-mul, mod-lt, lt-of-lt-of-le}
 use native.Mathlib.Omega.{arith}
 use lib.ListN.{length}
 use lib.Pow.{pow-pos, pow-mono, shl-exact}
-use Rattle.packing.specs.Layout.{leading, AreBytes, before}
-use Rattle.packing.proofs.Leading.{leading-all, three-last, field-at}
+use Rattle.laws.specs.Layout.{leading, AreBytes, before}
+use Rattle.laws.proofs.Leading.{leading-all, three-last, field-at}
 use Rattle.codec.specs.Bytes.{recordLength, bytesNumber}
 use Rattle.codec.specs.Fields.{fieldAt}
 

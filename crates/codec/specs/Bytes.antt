@@ -5,7 +5,7 @@ use mathlib.Core.Bool.{Bool, false}
 use mathlib.Core.List.{List, [], _∷_, _++_}
 use lib.ListN.{getD}
 use Rattle.laws.specs.Choice.{pick}
-use Rattle.packing.specs.Layout.{pack, unpack, bytes}
+use Rattle.laws.specs.Layout.{pack, unpack, bytes}
 use Rattle.dates.specs.declared.Date.{Date}
 use Rattle.records.specs.Form.{dateOf, kindNumber, statusNumber}
 use Rattle.records.specs.declared.Entry.{Entry}

@@ -1,4 +1,6 @@
 pub mod Bytes
 pub mod Reading
 pub mod Fields
+pub mod Parts
 pub mod Examples
+pub mod PartsExamples

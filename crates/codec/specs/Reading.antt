@@ -8,7 +8,7 @@ use lib.Dec.{ltb, leb, eqb}
 use lib.ListN.{getD, length, drop}
 use Rattle.laws.specs.Choice.{both, pick}
 use Rattle.laws.specs.Refusals.{Refusal, _when_, first}
-use Rattle.packing.specs.Layout.{unpack, AreBytes}
+use Rattle.laws.specs.Layout.{unpack, AreBytes}
 use Rattle.dates.specs.declared.Date.{Date}
 use Rattle.records.specs.Refusals.{ownNumber, refusalsOfRead}
 use Rattle.records.specs.declared.Entry.{Entry}

@@ -2,7 +2,7 @@
 ghost use mathlib.Core.Path.{_≡_};
 ghost use Prim.Native.Nat.{_+_, _*_, _/_, _%_, _^_, _≤_, _<_};
 ghost use lib.ListN.{length};
-ghost use Rattle.packing.specs.Layout.{before};
+ghost use Rattle.laws.specs.Layout.{before};
 ghost use Rattle.codec.specs.Bytes.{recordLength};
 ghost use Rattle.codec.specs.Fields.{fieldAt};
 

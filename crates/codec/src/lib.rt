@@ -1,4 +1,5 @@
-// A record as 11 bytes, read from any byte string (document 01, "Where a call stops", 1 to 5).
+// A record as 11 bytes, read from any byte string, and a file cut into such bytes (document 01, "Where a call stops", 1 to 5 and 13, and "Change in size,
+// file and listing").
 use dates::Date;
 use records::CheckAnswer;
 use records::OwnRefusal;
@@ -13,6 +14,10 @@ ghost use Rattle.codec.specs.declared.Raw.{Raw};
 
 mod fields; // fields.rt: the bits of one field
 mod decode; // decode.rt: bytes to what stands in them, before it is judged
+mod parts; // parts.rt: whether a file can be cut into the bytes of its records
+
+pub use parts::MOST_BYTES;
+pub use parts::bad_length;
 
 pub enum ReadAnswer {
     Done,

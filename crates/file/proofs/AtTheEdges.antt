@@ -3,18 +3,18 @@
 use mathlib.Core.Path.{refl}
 use Rattle.dates.specs.Calendar.{leapYear, daysInMonth, dateExists, daysOfYears, daysOfMonths, dayNumber}
 use Rattle.dates.specs.Answers.{studyDayOf}
-use Rattle.parts.specs.Parts.{badLength}
-use Rattle.criteria.specs.Sums.{measuredSum, baselineSum, allMeasured}
-use Rattle.criteria.specs.Targets.{allGone, grown, shrunk, targetAnswer}
-use Rattle.criteria.specs.Nadir.{afterVisit}
-use Rattle.criteria.specs.Overall.{overallBy}
-use Rattle.criteria.specs.Visits.{overallAnswer}
-use Rattle.endpoints.specs.Course.{answerAt}
-use Rattle.endpoints.specs.Pfs.{pfs}
-use Rattle.endpoints.specs.Best.{best, duration}
-use Rattle.endpoints.specs.Settled.{pfsSettledBy, bestSettledBy, durationSettledBy}
-use Rattle.held.specs.Range.{enrolmentInRange, followUpInRange, inRange}
-use Rattle.opening.specs.Opening.{blank}
+use Rattle.codec.specs.Parts.{badLength}
+use Rattle.response_rules.specs.Sums.{measuredSum, baselineSum, allMeasured}
+use Rattle.response_rules.specs.Targets.{allGone, grown, shrunk, targetAnswer}
+use Rattle.response_rules.specs.Nadir.{afterVisit}
+use Rattle.response_rules.specs.Overall.{overallBy}
+use Rattle.response_rules.specs.Visits.{overallAnswer}
+use Rattle.outcome_rules.specs.Course.{answerAt}
+use Rattle.outcome_rules.specs.Pfs.{pfs}
+use Rattle.outcome_rules.specs.Best.{best, duration}
+use Rattle.outcome_rules.specs.Settled.{pfsSettledBy, bestSettledBy, durationSettledBy}
+use Rattle.subject.specs.Range.{enrolmentInRange, followUpInRange, inRange}
+use Rattle.subject.specs.Opening.{blank}
 use Rattle.outcome.specs.Promises.{outcomeOf}
 use Rattle.file.specs.File.{startsLate, verdictOf}
 use Rattle.file.specs.Ending.{verdictHeld}

@@ -11,7 +11,7 @@ use lib.ListN.{getD, length, take, drop, List·getD-eq-default, length-take}
 use lib.Seq.{getD-take, getD-drop}
 use Rattle.laws.proofs.Cases.{Some}
 use Rattle.laws.proofs.Refusals.{among}
-use Rattle.packing.specs.Layout.{AreBytes}
+use Rattle.laws.specs.Layout.{AreBytes}
 use Rattle.records.specs.declared.OwnRefusal.the-variants as W
 use Rattle.records.specs.Form.{Five}
 use Rattle.codec.specs.declared.ReadAnswer.the-variants as R
@@ -20,14 +20,14 @@ use Rattle.codec.specs.Bytes.{recordLength}
 use Rattle.codec.specs.Reading.{readNumber, refusalsOfBytes, refusalOfBytes, recordOfBytes, Reads}
 use Rattle.codec.proofs.Fine.{each-of-bytes}
 use Rattle.codec.proofs.Found.{found-five}
-use Rattle.held.specs.declared.Subject.{Subject}
-use Rattle.endpoints.specs.Lines.{VisitLine}
-use Rattle.placing.specs.Promises.{subjectBy, refusalHeld}
+use Rattle.subject.specs.declared.Subject.{Subject}
+use Rattle.outcome_rules.specs.Lines.{VisitLine}
+use Rattle.adding.specs.Promises.{subjectBy, refusalHeld}
 use Rattle.outcome.proofs.Answers.{some-addition}
 use Rattle.outcome.proofs.Runs.{opens as some-opening, readable}
-use Rattle.parts.specs.Parts.{badLength, parts, partsOf}
+use Rattle.codec.specs.Parts.{badLength, parts, partsOf}
 use Rattle.file.specs.Singly.{Adds, none, adds, opens, Called}
-use Rattle.parts.proofs.Cut.{one-part}
+use Rattle.codec.proofs.Cut.{one-part}
 
 -- each number that refuses bytes, and 0, is that of some case of reading's answer
 some-bytes : (s : List ℕ) → Some readNumber (refusalOfBytes s)

@@ -21,25 +21,25 @@ use Rattle.records.proofs.Passed.{none-after-own}
 use Rattle.codec.specs.Reading.{refusalsOfBytes, refusalOfBytes, recordOfBytes}
 use Rattle.codec.proofs.Fine.{bytes-numbered, after-reading}
 use Rattle.codec.proofs.Found.{found-five}
-use Rattle.endpoints.specs.Values.{Outcome, dayValue}
-use Rattle.endpoints.specs.StudyRecords.{Baseline, baseline, fieldsPass, entryOnStudyDay, onStudyDays}
-use Rattle.endpoints.specs.Lawful.{Past}
-use Rattle.endpoints.specs.Course.{course, counting}
-use Rattle.endpoints.specs.Best.{firstResponse}
-use Rattle.endpoints.specs.Lines.{VisitLine, linesOf, visitLines, linesInOrder}
-use Rattle.endpoints.specs.Adding.{notBaseline, refusalsOfOpening, refusalsOfAdding, refusalOfAdding}
-use Rattle.endpoints.proofs.Refusals.{own-passed}
-use Rattle.held.specs.declared.Subject.{Subject}
-use Rattle.held.specs.Summary.{countedOf, summary}
-use Rattle.held.proofs.Follows.{day-of-maybe}
-use Rattle.opening.specs.declared.OpenAnswer.{OpenAnswer}
-use Rattle.opening.specs.declared.OpenAnswer.the-variants as N
-use Rattle.opening.specs.Opening.{openNumber, subjectOf, openedSubject, Opened, OpensBytes}
-use Rattle.opening.proofs.Follows.{opening-follows}
-use Rattle.placing.specs.declared.AddAnswer.{AddAnswer}
-use Rattle.placing.specs.Lines.{addResponses}
-use Rattle.placing.specs.Refusals.{addNumber}
-use Rattle.placing.specs.Promises.{Added, AddedBytes}
+use Rattle.outcome_rules.specs.Values.{Outcome, dayValue}
+use Rattle.outcome_rules.specs.StudyRecords.{Baseline, baseline, fieldsPass, entryOnStudyDay, onStudyDays}
+use Rattle.outcome_rules.specs.Lawful.{Past}
+use Rattle.outcome_rules.specs.Course.{course, counting}
+use Rattle.outcome_rules.specs.Best.{firstResponse}
+use Rattle.outcome_rules.specs.Lines.{VisitLine, linesOf, visitLines, linesInOrder}
+use Rattle.outcome_rules.specs.Adding.{notBaseline, refusalsOfOpening, refusalsOfAdding, refusalOfAdding}
+use Rattle.outcome_rules.proofs.Refusals.{own-passed}
+use Rattle.subject.specs.declared.Subject.{Subject}
+use Rattle.subject.specs.Summary.{countedOf, summary}
+use Rattle.subject.proofs.Follows.{day-of-maybe}
+use Rattle.subject.specs.declared.OpenAnswer.{OpenAnswer}
+use Rattle.subject.specs.declared.OpenAnswer.the-variants as N
+use Rattle.subject.specs.Opening.{openNumber, subjectOf, openedSubject, Opened, OpensBytes}
+use Rattle.subject.proofs.OpeningFollows.{opening-follows}
+use Rattle.adding.specs.declared.AddAnswer.{AddAnswer}
+use Rattle.adding.specs.Lines.{addResponses}
+use Rattle.adding.specs.Refusals.{addNumber}
+use Rattle.adding.specs.Promises.{Added, AddedBytes}
 use Rattle.outcome.specs.declared.OutcomeAnswer.{OutcomeAnswer}
 use Rattle.outcome.specs.Promises.{pfsHeld, durationHeld, outcomeOf, outcome, readingValues, Told}
 use Rattle.outcome.proofs.Follows.{pfs-held, duration-held, outcome-held}

@@ -6,15 +6,15 @@ use Prim.Native.Nat.{ℕ}
 use lib.Dec.{ltb}
 use Rattle.laws.specs.Choice.{pick}
 use Rattle.dates.specs.declared.StudyDay.{StudyDay}
-use Rattle.endpoints.specs.declared.MaybeDay.{MaybeDay}
-use Rattle.endpoints.specs.declared.MaybeDay.the-variants as M
-use Rattle.endpoints.specs.declared.DurationAnswer.{DurationAnswer}
-use Rattle.endpoints.specs.declared.DurationAnswer.the-variants as D
-use Rattle.endpoints.specs.declared.DurationResult.{DurationResult}
-use Rattle.endpoints.specs.declared.PfsResult.{PfsResult}
-use Rattle.endpoints.specs.Values.{Outcome, dayValue, pfsValues, durationValues}
-use Rattle.held.specs.declared.Subject.{Subject}
-use Rattle.held.specs.Range.{inRange}
+use Rattle.outcome_rules.specs.declared.MaybeDay.{MaybeDay}
+use Rattle.outcome_rules.specs.declared.MaybeDay.the-variants as M
+use Rattle.outcome_rules.specs.declared.DurationAnswer.{DurationAnswer}
+use Rattle.outcome_rules.specs.declared.DurationAnswer.the-variants as D
+use Rattle.outcome_rules.specs.declared.DurationResult.{DurationResult}
+use Rattle.outcome_rules.specs.declared.PfsResult.{PfsResult}
+use Rattle.outcome_rules.specs.Values.{Outcome, dayValue, pfsValues, durationValues}
+use Rattle.subject.specs.declared.Subject.{Subject}
+use Rattle.subject.specs.Range.{inRange}
 use Rattle.outcome.specs.declared.OutcomeAnswer.{OutcomeAnswer}
 use Rattle.outcome.specs.declared.OutcomeAnswer.the-variants as R
 use Rattle.outcome.specs.declared.OutcomeResult.{OutcomeResult}

@@ -18,24 +18,24 @@ use Rattle.codec.specs.Bytes.{recordLength}
 use Rattle.records.proofs.Passed.{none-after-own}
 use Rattle.codec.specs.Reading.{refusalsOfBytes, recordOfBytes, Reads}
 use Rattle.codec.proofs.Fine.{after-reading}
-use Rattle.endpoints.specs.Values.{Outcome}
-use Rattle.endpoints.specs.StudyRecords.{onStudyDays}
-use Rattle.endpoints.specs.Lines.{VisitLine, linesInOrder}
-use Rattle.endpoints.specs.Adding.{refusalsOfOpening, refusalOfOpening, refusalsOfAdding}
-use Rattle.held.specs.declared.Subject.{Subject}
-use Rattle.opening.specs.declared.OpenAnswer.{OpenAnswer}
-use Rattle.opening.specs.Opening.{openNumber, Opened}
-use Rattle.placing.specs.declared.AddAnswer.{AddAnswer}
-use Rattle.placing.specs.Lines.{addResponses}
-use Rattle.placing.specs.Refusals.{addNumber}
-use Rattle.placing.specs.Promises.{Added}
+use Rattle.outcome_rules.specs.Values.{Outcome}
+use Rattle.outcome_rules.specs.StudyRecords.{onStudyDays}
+use Rattle.outcome_rules.specs.Lines.{VisitLine, linesInOrder}
+use Rattle.outcome_rules.specs.Adding.{refusalsOfOpening, refusalOfOpening, refusalsOfAdding}
+use Rattle.subject.specs.declared.Subject.{Subject}
+use Rattle.subject.specs.declared.OpenAnswer.{OpenAnswer}
+use Rattle.subject.specs.Opening.{openNumber, Opened}
+use Rattle.adding.specs.declared.AddAnswer.{AddAnswer}
+use Rattle.adding.specs.Lines.{addResponses}
+use Rattle.adding.specs.Refusals.{addNumber}
+use Rattle.adding.specs.Promises.{Added}
 use Rattle.outcome.specs.declared.OutcomeAnswer.{OutcomeAnswer}
 use Rattle.outcome.specs.Promises.{outcome, readingValues, Told}
-use Rattle.parts.specs.Parts.{badLength, partsOf}
+use Rattle.codec.specs.Parts.{badLength, partsOf}
 use Rattle.file.specs.File.{refusalOfPart, Verdict, refused, accepted, verdictOn, verdictFrom, verdictOf}
 use Rattle.file.specs.Singly.{numberOf, Adds, none, adds, Singly, opens, Stop, never, at, firstRefusal, AsSingly}
 use Rattle.file.proofs.Verdicts.{apart, accepted-same}
-use Rattle.parts.proofs.Cut.{length-parts, cut}
+use Rattle.codec.proofs.Cut.{length-parts, cut}
 use Rattle.file.proofs.Called.{called}
 use Rattle.file.proofs.Follows.{Taken, none-read, alone, opened-taken, adding, more, lines-more, EndsBy, told-verdict}
 

@@ -13,17 +13,17 @@ use lib.ListN.{length, take}
 use Rattle.records.specs.declared.Record.{Record}
 use Rattle.codec.specs.Bytes.{recordLength}
 use Rattle.codec.specs.Reading.{recordOfBytes}
-use Rattle.held.specs.declared.Subject.{Subject}
-use Rattle.opening.specs.declared.OpenAnswer.{OpenAnswer}
-use Rattle.opening.specs.Opening.{openNumber, OpensBytes}
-use Rattle.placing.specs.declared.AddAnswer.{AddAnswer}
-use Rattle.placing.specs.Refusals.{addNumber}
-use Rattle.placing.specs.Promises.{AddedBytes}
+use Rattle.subject.specs.declared.Subject.{Subject}
+use Rattle.subject.specs.declared.OpenAnswer.{OpenAnswer}
+use Rattle.subject.specs.Opening.{openNumber, OpensBytes}
+use Rattle.adding.specs.declared.AddAnswer.{AddAnswer}
+use Rattle.adding.specs.Refusals.{addNumber}
+use Rattle.adding.specs.Promises.{AddedBytes}
 use Rattle.file.specs.declared.FileAnswer.{FileAnswer}
-use Rattle.parts.specs.Parts.{badLength, parts, partsOf}
+use Rattle.codec.specs.Parts.{badLength, parts, partsOf}
 use Rattle.file.specs.File.{refusalOfPart, refused, verdictFrom, verdictOf, fileValues, Judges}
 use Rattle.file.specs.Ending.{Ends}
-use Rattle.parts.proofs.Cut.{one-part, partAt, partsFrom, one-more}
+use Rattle.codec.proofs.Cut.{one-part, partAt, partsFrom, one-more}
 use Rattle.file.proofs.Follows.{Taken, first-taken, more, later-number, later-added, ending}
 
 -- the parts from index k on

@@ -4,7 +4,7 @@ use mathlib.Core.Path.{_≡_, sym, _∙_, ap}
 use mathlib.Core.Bool.{Bool, true, false}
 use Prim.Native.Nat.{ℕ}
 use Rattle.laws.proofs.Tests.{never}
-use Rattle.endpoints.specs.Values.{Outcome}
+use Rattle.outcome_rules.specs.Values.{Outcome}
 use Rattle.file.specs.File.{Verdict, refused, accepted}
 
 abbrev isAccepted : Verdict → Bool

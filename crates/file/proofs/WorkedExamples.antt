@@ -7,18 +7,18 @@ use Rattle.dates.specs.Answers.{studyDayOf}
 use Rattle.records.specs.Refusals.{wrongSize, largeMeasured, setBeyond, sizedUnmeasured, withoutDisease, outsideLimits, notZero, refusalsOfRead}
 use Rattle.codec.specs.Bytes.{bytesNumber}
 use Rattle.codec.specs.Reading.{statusFrom, baselineIn, visitIn, spareIn, rawIn, refusalsOfNumber, refusalsOfBytes, recordOfBytes}
-use Rattle.parts.specs.Parts.{badLength}
-use Rattle.criteria.specs.Sums.{measuredSum, baselineSum, allMeasured}
-use Rattle.criteria.specs.Targets.{allGone, grown, shrunk, targetAnswer}
-use Rattle.criteria.specs.Nadir.{afterVisit}
-use Rattle.criteria.specs.Overall.{overallBy}
-use Rattle.criteria.specs.Visits.{overallAnswer}
-use Rattle.endpoints.specs.Lawful.{measuredBeyond, fitsBy, fits}
-use Rattle.endpoints.specs.Course.{answerAt}
-use Rattle.endpoints.specs.Pfs.{gapLimit, earlyDeath, pfs}
-use Rattle.endpoints.specs.Best.{best, duration}
-use Rattle.endpoints.specs.Settled.{settledFrom, pfsSettledBy, bestSettledBy, durationSettledBy, pfsSettled, bestSettled, durationSettled}
-use Rattle.endpoints.specs.Adding.{refusalsBehind, refusalsOfOpening, refusalsOfAdding}
+use Rattle.codec.specs.Parts.{badLength}
+use Rattle.response_rules.specs.Sums.{measuredSum, baselineSum, allMeasured}
+use Rattle.response_rules.specs.Targets.{allGone, grown, shrunk, targetAnswer}
+use Rattle.response_rules.specs.Nadir.{afterVisit}
+use Rattle.response_rules.specs.Overall.{overallBy}
+use Rattle.response_rules.specs.Visits.{overallAnswer}
+use Rattle.outcome_rules.specs.Lawful.{measuredBeyond, fitsBy, fits}
+use Rattle.outcome_rules.specs.Course.{answerAt}
+use Rattle.outcome_rules.specs.Pfs.{gapLimit, earlyDeath, pfs}
+use Rattle.outcome_rules.specs.Best.{best, duration}
+use Rattle.outcome_rules.specs.Settled.{settledFrom, pfsSettledBy, bestSettledBy, durationSettledBy, pfsSettled, bestSettled, durationSettled}
+use Rattle.outcome_rules.specs.Adding.{refusalsBehind, refusalsOfOpening, refusalsOfAdding}
 use Rattle.file.specs.File.{startsLate, verdictOf}
 use Rattle.file.specs.Examples.{WholeFiles}
 

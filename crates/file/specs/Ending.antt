@@ -5,9 +5,9 @@ use mathlib.Core.Bool.{not}
 use mathlib.Core.List.{[], _∷_}
 use Prim.Native.Nat.{ℕ}
 use Rattle.laws.specs.Refusals.{_when_}
-use Rattle.endpoints.specs.Values.{dayValue}
-use Rattle.held.specs.declared.Subject.{Subject}
-use Rattle.held.specs.Range.{inRange}
+use Rattle.outcome_rules.specs.Values.{dayValue}
+use Rattle.subject.specs.declared.Subject.{Subject}
+use Rattle.subject.specs.Range.{inRange}
 use Rattle.outcome.specs.Promises.{pfsHeld, durationHeld, outcomeOf}
 use Rattle.file.specs.declared.FileAnswer.{FileAnswer}
 use Rattle.file.specs.File.{Verdict, accepted, unlessRefused, startsLate, fileValues}

@@ -15,12 +15,12 @@ use Rattle.codec.specs.declared.ReadAnswer.{ReadAnswer}
 use Rattle.codec.specs.declared.ReadAnswer.the-variants as R
 use Rattle.codec.specs.declared.ReadResult.{ReadResult}
 use Rattle.codec.specs.Reading.{blank}
-use Rattle.criteria.specs.Words.{PR, NE}
-use Rattle.endpoints.specs.Values.{on, EVENT, CENSORED, event, censored, noDuration, forDays, Outcome}
-use Rattle.endpoints.specs.declared.BestResponse.the-variants as B
-use Rattle.endpoints.specs.declared.MaybeDay.the-variants as M
-use Rattle.held.specs.Examples.{onDay, events, counts}
-use Rattle.opening.specs.Opening as O
+use Rattle.response_rules.specs.Words.{PR, NE}
+use Rattle.outcome_rules.specs.Values.{on, EVENT, CENSORED, event, censored, noDuration, forDays, Outcome}
+use Rattle.outcome_rules.specs.declared.BestResponse.the-variants as B
+use Rattle.outcome_rules.specs.declared.MaybeDay.the-variants as M
+use Rattle.subject.specs.Examples.{onDay, events, counts}
+use Rattle.subject.specs.Opening as O
 use Rattle.outcome.specs.Examples.{heldWith, result, values}
 use Rattle.file.specs.File.{refused, accepted, startsLate, verdictFrom, verdictOf, fileValues}
 use Rattle.file.specs.Ending.{verdictHeld}

@@ -10,14 +10,14 @@ use Rattle.laws.specs.Choice.{both, pick}
 use Rattle.laws.specs.Refusals.{Refusal, _when_, first}
 use Rattle.records.specs.declared.Record.{Record}
 use Rattle.codec.specs.Reading.{refusalsOfBytes, recordOfBytes}
-use Rattle.parts.specs.Parts.{badLength, partsOf}
-use Rattle.endpoints.specs.Values.{Day, none, on, Pfs, Duration, exists, Outcome}
-use Rattle.endpoints.specs.StudyRecords.{Baseline, StudyRecord, onStudyDays, fromBaseline}
-use Rattle.endpoints.specs.Course.{Course, course, counting}
-use Rattle.endpoints.specs.Pfs.{pfs}
-use Rattle.endpoints.specs.Best.{firstResponse, duration}
-use Rattle.endpoints.specs.Lasting.{outcomeInOrder}
-use Rattle.endpoints.specs.Adding.{refusalsOfOpening, refusalsOfAdding}
+use Rattle.codec.specs.Parts.{badLength, partsOf}
+use Rattle.outcome_rules.specs.Values.{Day, none, on, Pfs, Duration, exists, Outcome}
+use Rattle.outcome_rules.specs.StudyRecords.{Baseline, StudyRecord, onStudyDays, fromBaseline}
+use Rattle.outcome_rules.specs.Course.{Course, course, counting}
+use Rattle.outcome_rules.specs.Pfs.{pfs}
+use Rattle.outcome_rules.specs.Best.{firstResponse, duration}
+use Rattle.outcome_rules.specs.Lasting.{outcomeInOrder}
+use Rattle.outcome_rules.specs.Adding.{refusalsOfOpening, refusalsOfAdding}
 use Rattle.outcome.specs.Promises.{outcomeValues}
 use Rattle.file.specs.declared.FileAnswer.{FileAnswer}
 use Rattle.file.specs.declared.FileAnswer.the-variants as F

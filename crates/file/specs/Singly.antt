@@ -11,23 +11,23 @@ use Prim.Native.Nat.{ℕ, suc, _-_, _/_}
 use lib.Dec.{eqb}
 use lib.ListN.{length}
 use Rattle.laws.specs.Choice.{pick}
-use Rattle.packing.specs.Layout.{AreBytes}
+use Rattle.laws.specs.Layout.{AreBytes}
 use Rattle.codec.specs.Bytes.{recordLength}
 use Rattle.codec.specs.declared.ReadResult.{ReadResult}
 use Rattle.codec.specs.Reading.{readNumber, recordOfBytes, Reads}
-use Rattle.endpoints.specs.Values.{Outcome}
-use Rattle.endpoints.specs.StudyRecords.{onStudyDays}
-use Rattle.endpoints.specs.Lines.{VisitLine, linesInOrder}
-use Rattle.held.specs.declared.Subject.{Subject}
-use Rattle.opening.specs.declared.OpenAnswer.{OpenAnswer}
-use Rattle.opening.specs.Opening.{openNumber, Opened}
-use Rattle.placing.specs.declared.AddAnswer.{AddAnswer}
-use Rattle.placing.specs.Lines.{addResponses}
-use Rattle.placing.specs.Refusals.{addNumber}
-use Rattle.placing.specs.Promises.{Added}
+use Rattle.outcome_rules.specs.Values.{Outcome}
+use Rattle.outcome_rules.specs.StudyRecords.{onStudyDays}
+use Rattle.outcome_rules.specs.Lines.{VisitLine, linesInOrder}
+use Rattle.subject.specs.declared.Subject.{Subject}
+use Rattle.subject.specs.declared.OpenAnswer.{OpenAnswer}
+use Rattle.subject.specs.Opening.{openNumber, Opened}
+use Rattle.adding.specs.declared.AddAnswer.{AddAnswer}
+use Rattle.adding.specs.Lines.{addResponses}
+use Rattle.adding.specs.Refusals.{addNumber}
+use Rattle.adding.specs.Promises.{Added}
 use Rattle.outcome.specs.declared.OutcomeAnswer.{OutcomeAnswer}
 use Rattle.outcome.specs.Promises.{outcome, readingValues, Told}
-use Rattle.parts.specs.Parts.{badLength, partsOf, Cuts}
+use Rattle.codec.specs.Parts.{badLength, partsOf, Cuts}
 use Rattle.file.specs.File.{refused, accepted, verdictOf}
 
 -- the number that reading gives, or, where that is 0, the number that opening or adding gives

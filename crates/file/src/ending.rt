@@ -1,13 +1,13 @@
 // Behind the last record of a file: refusal 14, or the outcome.
 use super::FileAnswer;
 use super::refused;
-use endpoints::DurationAnswer;
-use endpoints::MaybeDay;
-use endpoints::PfsResult;
-use held::Subject;
 use outcome::OutcomeAnswer;
+use outcome_rules::DurationAnswer;
+use outcome_rules::MaybeDay;
+use outcome_rules::PfsResult;
+use subject::Subject;
 ghost use mathlib.Core.Path.{_≡_};
-ghost use Rattle.endpoints.specs.Values.{dayValue, pfsValues, durationValues};
+ghost use Rattle.outcome_rules.specs.Values.{dayValue, pfsValues, durationValues};
 ghost use Rattle.file.specs.File.{isAfter, startsLate};
 ghost use Rattle.file.specs.Ending.{Ends};
 

@@ -33,12 +33,12 @@ pub(crate) fn refused(number: u8, index: usize) -> FileAnswer
 pub fn judge_file(bytes: &[u8]) -> FileAnswer
     ensures { λ a. ⌜ Judges (now (bytes .entry)) a ⌝ }
 {
-    if parts::bad_length(bytes.len()) {
+    if codec::bad_length(bytes.len()) {
         return refused(13, 0);
     }
-    let first = opening::open_bytes(&bytes[0..RECORD_LENGTH]);
+    let first = subject::open_bytes(&bytes[0..RECORD_LENGTH]);
     let opened = first.answer;
-    let unopened = opening::open_number(opened);
+    let unopened = subject::open_number(opened);
     if unopened != 0 {
         return refused(unopened, 0);
     }
@@ -48,9 +48,9 @@ pub fn judge_file(bytes: &[u8]) -> FileAnswer
     while k < count {
         let from = k * RECORD_LENGTH;
         let to = from + RECORD_LENGTH;
-        let addition = placing::add_bytes(subject, &bytes[from..to]);
+        let addition = adding::add_bytes(subject, &bytes[from..to]);
         let answer = addition.answer;
-        let number = placing::add_number(answer);
+        let number = adding::add_number(answer);
         if number != 0 {
             return refused(number, k);
         }

@@ -8,20 +8,20 @@ use lib.ListN.{length, take}
 use Rattle.records.specs.declared.Record.{Record}
 use Rattle.codec.specs.Bytes.{recordLength}
 use Rattle.codec.specs.Reading.{recordOfBytes}
-use Rattle.endpoints.specs.Adding.{Call}
-use Rattle.held.specs.declared.Subject.{Subject}
-use Rattle.opening.specs.Opening.{blank, Opened}
-use Rattle.placing.specs.declared.AddAnswer.{AddAnswer}
-use Rattle.opening.specs.declared.OpenAnswer.{OpenAnswer}
+use Rattle.outcome_rules.specs.Adding.{Call}
+use Rattle.subject.specs.declared.Subject.{Subject}
+use Rattle.subject.specs.Opening.{blank, Opened}
+use Rattle.adding.specs.declared.AddAnswer.{AddAnswer}
+use Rattle.subject.specs.declared.OpenAnswer.{OpenAnswer}
 use Rattle.outcome.specs.declared.OutcomeAnswer.{OutcomeAnswer}
 use Rattle.outcome.specs.declared.OutcomeAnswer.the-variants as A
-use Rattle.placing.specs.Promises.{Added}
+use Rattle.adding.specs.Promises.{Added}
 use Rattle.outcome.specs.Promises.{Told}
 use Rattle.outcome.specs.Demand3.{Reply, Calls, none, adds, reads}
 use Rattle.outcome.proofs.Within.{calls-in-range}
 use Rattle.outcome.proofs.Demand.{demand3}
-use Rattle.parts.specs.Parts.{parts}
-use Rattle.parts.proofs.Cut.{partAt, partsFrom, one-more}
+use Rattle.codec.specs.Parts.{parts}
+use Rattle.codec.proofs.Cut.{partAt, partsFrom, one-more}
 use Rattle.history.specs.Replay.{recordsIn, callsOf, Replayed}
 
 -- some replies to the calls of the records lead from a subject to another

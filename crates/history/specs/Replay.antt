@@ -5,11 +5,11 @@ use mathlib.Core.List.{List, [], _∷_, map}
 use Prim.Native.Nat.{ℕ}
 use Rattle.records.specs.declared.Record.{Record}
 use Rattle.codec.specs.Reading.{recordOfBytes}
-use Rattle.endpoints.specs.Adding.{refusalOfOpening, Call, add, read, accepted}
+use Rattle.outcome_rules.specs.Adding.{refusalOfOpening, Call, add, read, accepted}
 use Rattle.outcome.specs.declared.OutcomeAnswer.{OutcomeAnswer}
 use Rattle.outcome.specs.Promises.{refused, readingValues}
 use Rattle.outcome.specs.Demand3.{Claim}
-use Rattle.parts.specs.Parts.{partsOf}
+use Rattle.codec.specs.Parts.{partsOf}
 
 -- the records of a byte string; bytes behind the last whole part are left
 abbrev pub recordsIn : List ℕ → List Record

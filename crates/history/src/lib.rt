@@ -26,7 +26,7 @@ fn print_listing(text: &[u8]) {
 }
 
 fn listing(bytes: &[u8]) {
-    let mut page = text::blank_page();
+    let mut page = listing_text::blank_page();
     let n = listing::list(bytes, &mut page);
     print_listing(&page[..n]);
 }

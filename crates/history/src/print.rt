@@ -1,13 +1,13 @@
 // Answers on standard output: their numbers, chosen by the names of their cases, and the outcome in the lines of the listing.
-use endpoints::BestResponse;
-use endpoints::DurationAnswer;
-use endpoints::PfsStatus;
+use adding::AddAnswer;
 use file::FileAnswer;
 use file::FileRefusal;
-use opening::OpenAnswer;
 use outcome::OutcomeAnswer;
 use outcome::OutcomeResult;
-use placing::AddAnswer;
+use outcome_rules::BestResponse;
+use outcome_rules::DurationAnswer;
+use outcome_rules::PfsStatus;
+use subject::OpenAnswer;
 
 pub(crate) fn text(line: &[u8]) {
     io::write_all(libc::STDOUT_FILENO, line);
@@ -20,13 +20,13 @@ pub(crate) fn number(n: u64) {
 // Behind an A, which starts the numbers of a history.
 pub(crate) fn opened(answer: OpenAnswer) {
     text(b"A ");
-    number(opening::open_number(answer) as u64);
+    number(subject::open_number(answer) as u64);
 }
 
 // Behind a space.
 pub(crate) fn added(answer: AddAnswer) {
     text(b" ");
-    number(placing::add_number(answer) as u64);
+    number(adding::add_number(answer) as u64);
 }
 
 fn status(s: PfsStatus) {

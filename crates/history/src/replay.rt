@@ -23,7 +23,7 @@ pub(crate) fn replay(bytes: &[u8]) -> OutcomeAnswer
     if count == 0 {
         return OutcomeAnswer::OutOfRange;
     }
-    let opened = opening::open_subject(record_in(&bytes[0..RECORD_LENGTH]));
+    let opened = subject::open_subject(record_in(&bytes[0..RECORD_LENGTH]));
     let first = opened.answer;
     print::opened(first);
     let mut subject = opened.subject;
@@ -32,7 +32,7 @@ pub(crate) fn replay(bytes: &[u8]) -> OutcomeAnswer
         let from = k * RECORD_LENGTH;
         let to = from + RECORD_LENGTH;
         k += 1;
-        let addition = placing::added(subject, record_in(&bytes[from..to]));
+        let addition = adding::added(subject, record_in(&bytes[from..to]));
         let answer = addition.answer;
         print::added(answer);
         let next = addition.subject;

@@ -6,7 +6,7 @@ use mathlib.Core.List.{List}
 use Prim.Native.Nat.{ℕ, _<_, _≤_}
 use lib.ListN.{length, drop}
 use Rattle.io.specs.Counts.{clamped}
-use Rattle.parts.specs.Parts.{mostBytes}
+use Rattle.codec.specs.Parts.{mostBytes}
 use Rattle.input.specs.declared.Input.{Input}
 
 pub record Received (bytes : List ℕ) (x : Input) (left : List ℕ) : Type 0 where

@@ -29,7 +29,7 @@ fn read_into(bytes: &mut [u8]) -> Input
     let chunk: &mut [u8] = &mut space;
     let mut count: usize = 0;
     // One byte more than a file may have is enough to refuse it.
-    while count <= parts::MOST_BYTES {
+    while count <= codec::MOST_BYTES {
         let got = libc::read(libc::STDIN_FILENO, chunk);
         let n = io::count(got, chunk);
         if n == 0 {

@@ -4,3 +4,6 @@ pub mod Some
 pub mod Lists
 pub mod Cases
 pub mod Refusals
+pub mod Packing
+pub mod Append
+pub mod Leading

@@ -1,1 +1,1 @@
-// Definitions on Bool and laws that every crate above uses: all of it is in specs/ and proofs/.
+// Definitions that every layer uses, with their laws, in specs/ and proofs/: tests on Bool, the first refusal of a list, and fields packed by their widths.

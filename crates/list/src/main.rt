@@ -2,7 +2,7 @@
 // that fails is told from an end of input, so that a file that was cut off is never listed as a whole one.
 
 fn print_listing(bytes: &[u8]) {
-    let mut page = text::blank_page();
+    let mut page = listing_text::blank_page();
     let n = listing::list(bytes, &mut page);
     if !io::write_all(libc::STDOUT_FILENO, &page[..n]) {
         io::write_all(

@@ -3,18 +3,18 @@
 use mathlib.Core.Path.{_≡_}
 use Prim.Native.Nat.{ℕ, _<_}
 use native.Mathlib.Omega.{arith}
-use Rattle.criteria.specs.declared.ChangeAnswer.{ChangeAnswer}
-use Rattle.criteria.specs.declared.ChangeAnswer.the-variants as C
-use Rattle.criteria.specs.Change.{changeValues}
-use Rattle.endpoints.specs.declared.DurationAnswer.{DurationAnswer}
-use Rattle.endpoints.specs.declared.DurationAnswer.the-variants as D
-use Rattle.endpoints.specs.declared.DurationResult.{DurationResult}
-use Rattle.endpoints.specs.Values.{durationValues}
-use Rattle.held.specs.Laws.{Within}
-use Rattle.placing.specs.declared.AddAnswer.{AddAnswer}
-use Rattle.placing.specs.declared.AddAnswer.the-variants as A
-use Rattle.placing.specs.declared.VisitResponse.{VisitResponse}
-use Rattle.placing.specs.Lines.{responseValues, addResponses}
+use Rattle.response_rules.specs.declared.ChangeAnswer.{ChangeAnswer}
+use Rattle.response_rules.specs.declared.ChangeAnswer.the-variants as C
+use Rattle.response_rules.specs.Change.{changeValues}
+use Rattle.outcome_rules.specs.declared.DurationAnswer.{DurationAnswer}
+use Rattle.outcome_rules.specs.declared.DurationAnswer.the-variants as D
+use Rattle.outcome_rules.specs.declared.DurationResult.{DurationResult}
+use Rattle.outcome_rules.specs.Values.{durationValues}
+use Rattle.subject.specs.Laws.{Within}
+use Rattle.adding.specs.declared.AddAnswer.{AddAnswer}
+use Rattle.adding.specs.declared.AddAnswer.the-variants as A
+use Rattle.adding.specs.declared.VisitResponse.{VisitResponse}
+use Rattle.adding.specs.Lines.{responseValues, addResponses}
 use Rattle.outcome.specs.Laws.{DurationWithin}
 use Rattle.listing.specs.Writing.{Writable, AllWritable}
 

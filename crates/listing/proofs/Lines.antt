@@ -14,22 +14,22 @@ use Rattle.records.specs.declared.Record.{Record}
 use Rattle.records.specs.Form.{Five}
 use Rattle.records.specs.Refusals.{refusalOf}
 use Rattle.records.proofs.Passed.{none-after-own}
-use Rattle.endpoints.specs.StudyRecords.{Baseline, StudyRecord, dayOf, entryOnStudyDay}
-use Rattle.endpoints.specs.Lawful.{Past}
-use Rattle.endpoints.specs.Lines.{linesOf}
-use Rattle.endpoints.specs.Adding.{refusalsBehind, refusalsOfAdding}
-use Rattle.endpoints.proofs.Refusals.{one-more, own-passed}
-use Rattle.held.specs.declared.Subject.{Subject}
-use Rattle.placing.specs.declared.AddAnswer.{AddAnswer}
-use Rattle.placing.specs.declared.AddAnswer.the-variants as A
-use Rattle.placing.specs.Lines.{responseValues, addResponses}
-use Rattle.placing.specs.Refusals.{addNumber}
-use Rattle.placing.specs.Promises.{Added}
-use Rattle.placing.proofs.Within.{study-day-most}
+use Rattle.outcome_rules.specs.StudyRecords.{Baseline, StudyRecord, dayOf, entryOnStudyDay}
+use Rattle.outcome_rules.specs.Lawful.{Past}
+use Rattle.outcome_rules.specs.Lines.{linesOf}
+use Rattle.outcome_rules.specs.Adding.{refusalsBehind, refusalsOfAdding}
+use Rattle.outcome_rules.proofs.Refusals.{one-more, own-passed}
+use Rattle.subject.specs.declared.Subject.{Subject}
+use Rattle.adding.specs.declared.AddAnswer.{AddAnswer}
+use Rattle.adding.specs.declared.AddAnswer.the-variants as A
+use Rattle.adding.specs.Lines.{responseValues, addResponses}
+use Rattle.adding.specs.Refusals.{addNumber}
+use Rattle.adding.specs.Promises.{Added}
+use Rattle.adding.proofs.Within.{study-day-most}
 use Rattle.outcome.proofs.Demand.{base, on-day, past, responses}
 use Rattle.file.proofs.Follows.{Taken, accepts}
-use Rattle.text.specs.Text.{visitText, linesText}
-use Rattle.text.proofs.Lines.{AllShort, next-short}
+use Rattle.listing_text.specs.Text.{visitText, linesText}
+use Rattle.listing_text.proofs.Lines.{AllShort, next-short}
 use Rattle.listing.specs.Writing.{AllWritable}
 
 -- every study day of a record has five digits

@@ -12,30 +12,30 @@ use Rattle.records.specs.Form.{dateOf}
 use Rattle.codec.specs.Bytes.{recordLength}
 use Rattle.codec.specs.Reading.{recordOfBytes}
 use Rattle.codec.proofs.Found.{found-five}
-use Rattle.endpoints.specs.Values.{Outcome, dayValue}
-use Rattle.endpoints.specs.StudyRecords.{onStudyDays}
-use Rattle.endpoints.specs.Lines.{linesInOrder}
-use Rattle.held.specs.declared.Subject.{Subject}
-use Rattle.opening.specs.declared.OpenAnswer.{OpenAnswer}
-use Rattle.opening.specs.Opening.{openNumber, OpensBytes}
-use Rattle.placing.specs.declared.AddAnswer.{AddAnswer}
-use Rattle.placing.specs.Lines.{addResponses}
-use Rattle.placing.specs.Refusals.{addNumber}
-use Rattle.placing.specs.Promises.{Added, AddedBytes}
+use Rattle.outcome_rules.specs.Values.{Outcome, dayValue}
+use Rattle.outcome_rules.specs.StudyRecords.{onStudyDays}
+use Rattle.outcome_rules.specs.Lines.{linesInOrder}
+use Rattle.subject.specs.declared.Subject.{Subject}
+use Rattle.subject.specs.declared.OpenAnswer.{OpenAnswer}
+use Rattle.subject.specs.Opening.{openNumber, OpensBytes}
+use Rattle.adding.specs.declared.AddAnswer.{AddAnswer}
+use Rattle.adding.specs.Lines.{addResponses}
+use Rattle.adding.specs.Refusals.{addNumber}
+use Rattle.adding.specs.Promises.{Added, AddedBytes}
 use Rattle.outcome.specs.Promises.{outcome, pfsHeld, durationHeld, outcomeOf}
 use Rattle.outcome.specs.Laws.{TellsWithin}
 use Rattle.outcome.proofs.Within.{calls-in-range, reading-in-range}
 use Rattle.outcome.proofs.Runs.{readable}
 use Rattle.file.specs.declared.FileAnswer.{FileAnswer}
-use Rattle.parts.specs.Parts.{mostRecords, mostBytes, badLength, partsOf}
+use Rattle.codec.specs.Parts.{mostRecords, mostBytes, badLength, partsOf}
 use Rattle.file.specs.File.{refused, accepted, unlessRefused, startsLate, verdictOf, fileValues, Judges}
 use Rattle.file.specs.Ending.{verdictHeld, Ends}
 use Rattle.file.proofs.Verdicts.{apart, accepted-same}
-use Rattle.parts.proofs.Cut.{partAt}
+use Rattle.codec.proofs.Cut.{partAt}
 use Rattle.file.proofs.Follows.{alone, later-added, lines-more}
 use Rattle.file.proofs.Turns.{from, Standing, bad, first-refused, first-standing, turn-refused, turn, ended}
-use Rattle.text.specs.Text.{linesText}
-use Rattle.text.proofs.Texts.{lines-append}
+use Rattle.listing_text.specs.Text.{linesText}
+use Rattle.listing_text.proofs.Texts.{lines-append}
 use Rattle.listing.specs.Writing.{Wrote, AllWritable, SmallIndex, mostLines, JudgesInto}
 use Rattle.listing.proofs.Writing.{then, nothing, as-text}
 use Rattle.listing.proofs.Lines.{short-responses, shown-short}

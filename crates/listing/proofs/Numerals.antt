@@ -4,9 +4,9 @@ use mathlib.Core.Path.{_≡_, sym, _∙_, ap}
 use mathlib.Core.List.{List, [], _∷_, _++_, append-assoc}
 use Prim.Native.Nat.{ℕ, _+_, _-_, _*_, _/_, _%_, _≤_, _<_}
 use native.Mathlib.Omega.{arith}
-use Rattle.text.specs.Numerals.{digit, decimal}
-use Rattle.text.specs.Text.{tenthsText}
-use Rattle.text.proofs.Numerals.{one-digit, two-digits, three-digits, four-digits, five-digits}
+use Rattle.listing_text.specs.Numerals.{digit, decimal}
+use Rattle.listing_text.specs.Text.{tenthsText}
+use Rattle.listing_text.proofs.Numerals.{one-digit, two-digits, three-digits, four-digits, five-digits}
 use Rattle.listing.specs.Writing.{Wrote}
 use Rattle.listing.proofs.Writing.{as-text}
 

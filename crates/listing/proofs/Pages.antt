@@ -14,8 +14,8 @@ use Rattle.file.specs.declared.FileAnswer.{FileAnswer}
 use Rattle.file.specs.declared.FileAnswer.the-variants as F
 use Rattle.file.specs.declared.FileRefusal.{FileRefusal}
 use Rattle.file.specs.File.{refused, accepted, verdictOf, fileValues}
-use Rattle.text.specs.Text.{outcomeText, refusalText, listingOf, longestListing, pageOf}
-use Rattle.text.proofs.Lengths.{lengths}
+use Rattle.listing_text.specs.Text.{outcomeText, refusalText, listingOf, longestListing, pageOf}
+use Rattle.listing_text.proofs.Lengths.{lengths}
 use Rattle.listing.specs.Writing.{Wrote, SmallIndex, JudgesInto, Lists}
 use Rattle.listing.proofs.Writing.{then, as-text}
 

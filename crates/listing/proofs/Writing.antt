@@ -7,13 +7,13 @@ use native.Mathlib.Nat.{add-zero}
 use native.Mathlib.Omega.{arith}
 use lib.ListN.{length, length-append}
 use lib.Seq.{sets}
-use Rattle.criteria.specs.Words.{Word, CR, PR, SD, PD, NE, NA, NN, targetWord, statusWord, overallWord}
-use Rattle.criteria.specs.declared.Target.{Target}
-use Rattle.criteria.specs.declared.Overall.{Overall}
+use Rattle.response_rules.specs.Words.{Word, CR, PR, SD, PD, NE, NA, NN, targetWord, statusWord, overallWord}
+use Rattle.response_rules.specs.declared.Target.{Target}
+use Rattle.response_rules.specs.declared.Overall.{Overall}
 use Rattle.records.specs.declared.Status.{Status}
-use Rattle.endpoints.specs.declared.BestResponse.{BestResponse}
-use Rattle.endpoints.specs.Values.{bestWord}
-use Rattle.text.specs.Text.{wordText}
+use Rattle.outcome_rules.specs.declared.BestResponse.{BestResponse}
+use Rattle.outcome_rules.specs.Values.{bestWord}
+use Rattle.listing_text.specs.Text.{wordText}
 use Rattle.listing.specs.Writing.{Wrote, letters}
 
 sets-append : (o : List ℕ) (i : ℕ) (a b : List ℕ) → sets (sets o i a) (i + length a) b ≡ sets o i (a ++ b)

@@ -6,16 +6,16 @@ use Prim.Native.Nat.{ℕ, _+_, _*_, _≤_, _<_}
 use lib.ListN.{length}
 use lib.Seq.{sets}
 use Rattle.codec.specs.Reading.{recordOfBytes}
-use Rattle.criteria.specs.Words.{Word}
-use Rattle.endpoints.specs.Values.{Outcome}
-use Rattle.endpoints.specs.StudyRecords.{onStudyDays}
-use Rattle.endpoints.specs.Lines.{VisitLine, linesInOrder}
+use Rattle.response_rules.specs.Words.{Word}
+use Rattle.outcome_rules.specs.Values.{Outcome}
+use Rattle.outcome_rules.specs.StudyRecords.{onStudyDays}
+use Rattle.outcome_rules.specs.Lines.{VisitLine, linesInOrder}
 use Rattle.outcome.specs.Promises.{outcome}
 use Rattle.outcome.specs.Laws.{TellsWithin}
 use Rattle.file.specs.declared.FileAnswer.{FileAnswer}
-use Rattle.parts.specs.Parts.{partsOf}
+use Rattle.codec.specs.Parts.{partsOf}
 use Rattle.file.specs.File.{Verdict, refused, accepted, verdictOf, fileValues}
-use Rattle.text.specs.Text.{firstLetter, secondLetter, linesText, listingOf, pageOf}
+use Rattle.listing_text.specs.Text.{firstLetter, secondLetter, linesText, listingOf, pageOf}
 
 -- a text was written into the page from a place on, which led to the place behind it; every other byte is as it was
 pub record Wrote (page : List ℕ) (at : ℕ) (text : List ℕ) (next : ℕ) (left : List ℕ) : Type 0 where

@@ -2,13 +2,13 @@
 use codec::RECORD_LENGTH;
 use file::FileAnswer;
 use file::FileRefusal;
-use text::PAGE_LENGTH;
+use listing_text::PAGE_LENGTH;
 ghost use mathlib.Core.Path.{_≡_};
 ghost use Prim.Native.Nat.{_≤_};
 ghost use lib.ListN.{length, take, drop};
 ghost use mathlib.Core.List.{_++_};
 ghost use Rattle.file.specs.File.{fileValues, refused};
-ghost use Rattle.text.specs.Text.{longestListing};
+ghost use Rattle.listing_text.specs.Text.{longestListing};
 ghost use Rattle.listing.specs.Writing.{JudgesInto, Lists};
 
 mod page; // page.rt: bytes and numbers into a page
@@ -38,12 +38,12 @@ fn judge_into(bytes: &[u8], page: &mut [u8]) -> JudgedLines
     requires { ⌜ length (now page) ≡ longestListing ⌝ }
     ensures { λ x. ⌜ JudgesInto (now (bytes .entry)) (now (page .entry)) (x .answer) (x .length) (now (page .exit)) ⌝ }
 {
-    if parts::bad_length(bytes.len()) {
+    if codec::bad_length(bytes.len()) {
         return stopped(13, 0, 0);
     }
-    let first = opening::open_bytes(&bytes[0..RECORD_LENGTH]);
+    let first = subject::open_bytes(&bytes[0..RECORD_LENGTH]);
     let opened = first.answer;
-    let unopened = opening::open_number(opened);
+    let unopened = subject::open_number(opened);
     if unopened != 0 {
         return stopped(unopened, 0, 0);
     }
@@ -54,9 +54,9 @@ fn judge_into(bytes: &[u8], page: &mut [u8]) -> JudgedLines
     while k < count {
         let from = k * RECORD_LENGTH;
         let to = from + RECORD_LENGTH;
-        let addition = placing::add_bytes(subject, &bytes[from..to]);
+        let addition = adding::add_bytes(subject, &bytes[from..to]);
         let responses = addition.answer;
-        let number = placing::add_number(responses);
+        let number = adding::add_number(responses);
         if number != 0 {
             return stopped(number, k, at);
         }

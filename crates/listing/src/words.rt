@@ -1,18 +1,18 @@
 // The words of answers into a page, each behind a space.
 use super::page::put_five;
 use super::page::put_three;
-use criteria::Overall;
-use criteria::Target;
-use endpoints::BestResponse;
-use endpoints::PfsStatus;
+use outcome_rules::BestResponse;
+use outcome_rules::PfsStatus;
 use records::Status;
+use response_rules::Overall;
+use response_rules::Target;
 ghost use mathlib.Core.Path.{_≡_};
 ghost use mathlib.Core.List.{[], _∷_};
 ghost use Prim.Native.Nat.{_+_, _≤_, _/_, _%_};
 ghost use lib.ListN.{length};
-ghost use Rattle.criteria.specs.Words.{targetWord, statusWord, overallWord};
-ghost use Rattle.endpoints.specs.Values.{bestWord, wordOfStatus};
-ghost use Rattle.text.specs.Text.{statusText};
+ghost use Rattle.response_rules.specs.Words.{targetWord, statusWord, overallWord};
+ghost use Rattle.outcome_rules.specs.Values.{bestWord, wordOfStatus};
+ghost use Rattle.listing_text.specs.Text.{statusText};
 ghost use Rattle.listing.specs.Writing.{Wrote, letters};
 
 // The two letters as one number.

@@ -19,30 +19,30 @@ use Rattle.records.specs.declared.Record.{Record}
 use Rattle.records.specs.declared.OwnRefusal.the-variants as N
 use Rattle.records.specs.Refusals.{refusalsOf}
 use Rattle.records.proofs.Passed.{each-own}
-use Rattle.criteria.specs.declared.Target.the-variants as T
-use Rattle.criteria.specs.declared.Overall.the-variants as O
-use Rattle.criteria.specs.declared.ChangeAnswer.the-variants as C
-use Rattle.criteria.specs.Words.{Word, CR, PR, SD, PD, NE, targetWord, statusWord, overallWord}
-use Rattle.criteria.specs.Sums.{measuredSum, allMeasured}
-use Rattle.criteria.specs.Targets.{allGone, grown, shrunk, targetAnswer}
-use Rattle.criteria.specs.Inputs.{Visit, visitOf}
-use Rattle.criteria.specs.Overall.{grid, rowOf, columnOf, isPD, overallBy}
-use Rattle.criteria.specs.Visits.{overallAnswer}
-use Rattle.criteria.specs.declared.BaselineDisease.{BaselineDisease}
-use Rattle.criteria.specs.declared.Earlier.{Earlier}
-use Rattle.criteria.specs.Change.{signed, roundedChange, changeValues, changeBetween, changeOf}
-use Rattle.endpoints.specs.Lines.{VisitLine}
-use Rattle.held.specs.declared.Enrolment.{Enrolment}
-use Rattle.held.specs.declared.FollowUp.{FollowUp}
-use Rattle.held.specs.declared.Subject.{Subject}
-use Rattle.held.specs.Range.{inRange}
-use Rattle.placing.specs.declared.AddAnswer.{AddAnswer}
-use Rattle.placing.specs.declared.AddAnswer.the-variants as A
-use Rattle.placing.specs.Added.{answerOn}
-use Rattle.placing.specs.Lines.{responseValues, addResponses, lineOn, linesOn}
-use Rattle.placing.specs.Refusals.{addNumber}
-use Rattle.placing.proofs.Within.{each-on}
-use Rattle.placing.specs.Promises.{dayOn, refusalsOnDay, responsesBy, subjectBy, refusalHeld, Added}
+use Rattle.response_rules.specs.declared.Target.the-variants as T
+use Rattle.response_rules.specs.declared.Overall.the-variants as O
+use Rattle.response_rules.specs.declared.ChangeAnswer.the-variants as C
+use Rattle.response_rules.specs.Words.{Word, CR, PR, SD, PD, NE, targetWord, statusWord, overallWord}
+use Rattle.response_rules.specs.Sums.{measuredSum, allMeasured}
+use Rattle.response_rules.specs.Targets.{allGone, grown, shrunk, targetAnswer}
+use Rattle.response_rules.specs.Inputs.{Visit, visitOf}
+use Rattle.response_rules.specs.Overall.{grid, rowOf, columnOf, isPD, overallBy}
+use Rattle.response_rules.specs.Visits.{overallAnswer}
+use Rattle.response_rules.specs.declared.BaselineDisease.{BaselineDisease}
+use Rattle.response_rules.specs.declared.Earlier.{Earlier}
+use Rattle.response_rules.specs.Change.{signed, roundedChange, changeValues, changeBetween, changeOf}
+use Rattle.outcome_rules.specs.Lines.{VisitLine}
+use Rattle.subject.specs.declared.Enrolment.{Enrolment}
+use Rattle.subject.specs.declared.FollowUp.{FollowUp}
+use Rattle.subject.specs.declared.Subject.{Subject}
+use Rattle.subject.specs.Range.{inRange}
+use Rattle.adding.specs.declared.AddAnswer.{AddAnswer}
+use Rattle.adding.specs.declared.AddAnswer.the-variants as A
+use Rattle.adding.specs.Added.{answerOn}
+use Rattle.adding.specs.Lines.{responseValues, addResponses, lineOn, linesOn}
+use Rattle.adding.specs.Refusals.{addNumber}
+use Rattle.adding.proofs.Within.{each-on}
+use Rattle.adding.specs.Promises.{dayOn, refusalsOnDay, responsesBy, subjectBy, refusalHeld, Added}
 
 -- ---- the responses at a visit
 

@@ -16,23 +16,23 @@ use Rattle.records.specs.declared.Record.{Record}
 use Rattle.records.specs.Form.{Five}
 use Rattle.records.specs.Refusals.{refusalsOf}
 use Rattle.records.proofs.Passed.{each-own, none-after-own}
-use Rattle.endpoints.specs.StudyRecords.{Baseline, StudyRecord, onStudyDay, onStudyDays}
-use Rattle.endpoints.specs.Lawful.{Past, lawfulBehind}
-use Rattle.endpoints.specs.Lasting.{MarksExactOn}
-use Rattle.endpoints.specs.Lines.{VisitLine}
-use Rattle.endpoints.specs.Adding.{refusalsBehind, notBaseline, refusalsOfOpening, refusalOfOpening, refusalsOfAdding, refusalOfAdding, responsesOfAdding, Call, add, acceptedAfter, accepted}
-use Rattle.endpoints.proofs.Refusals.{each-behind}
-use Rattle.endpoints.proofs.Calls.{accepted-lawful, accepted-exact}
-use Rattle.held.specs.declared.Subject.{Subject}
-use Rattle.opening.specs.Opening.{openNumber, subjectOf, openedSubject, Opened}
-use Rattle.held.specs.Range.{inRange}
-use Rattle.placing.specs.declared.AddAnswer.{AddAnswer}
-use Rattle.placing.specs.Lines.{addResponses}
-use Rattle.placing.specs.Refusals.{addNumber}
-use Rattle.placing.specs.Promises.{responsesBy, subjectBy, refusalHeld, Added}
-use Rattle.held.specs.Summary.{summary}
-use Rattle.opening.proofs.Follows.{baselineOf, opening-follows}
-use Rattle.opening.specs.declared.OpenAnswer.{OpenAnswer}
+use Rattle.outcome_rules.specs.StudyRecords.{Baseline, StudyRecord, onStudyDay, onStudyDays}
+use Rattle.outcome_rules.specs.Lawful.{Past, lawfulBehind}
+use Rattle.outcome_rules.specs.Lasting.{MarksExactOn}
+use Rattle.outcome_rules.specs.Lines.{VisitLine}
+use Rattle.outcome_rules.specs.Adding.{refusalsBehind, notBaseline, refusalsOfOpening, refusalOfOpening, refusalsOfAdding, refusalOfAdding, responsesOfAdding, Call, add, acceptedAfter, accepted}
+use Rattle.outcome_rules.proofs.Refusals.{each-behind}
+use Rattle.outcome_rules.proofs.Calls.{accepted-lawful, accepted-exact}
+use Rattle.subject.specs.declared.Subject.{Subject}
+use Rattle.subject.specs.Opening.{openNumber, subjectOf, openedSubject, Opened}
+use Rattle.subject.specs.Range.{inRange}
+use Rattle.adding.specs.declared.AddAnswer.{AddAnswer}
+use Rattle.adding.specs.Lines.{addResponses}
+use Rattle.adding.specs.Refusals.{addNumber}
+use Rattle.adding.specs.Promises.{responsesBy, subjectBy, refusalHeld, Added}
+use Rattle.subject.specs.Summary.{summary}
+use Rattle.subject.proofs.OpeningFollows.{baselineOf, opening-follows}
+use Rattle.subject.specs.declared.OpenAnswer.{OpenAnswer}
 use Rattle.outcome.specs.declared.OutcomeAnswer.{OutcomeAnswer}
 use Rattle.outcome.specs.Promises.{Reading, outcome, readingValues, outcomeOf, Told}
 use Rattle.outcome.specs.Demand3.{Reply, added, told, Calls, none, adds, reads, outcomeOn, repliesAfter, Without12, SaysOn, Claim, Holds, Demand3}

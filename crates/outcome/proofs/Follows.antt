@@ -13,24 +13,24 @@ use Rattle.dates.specs.declared.Date.{Date}
 use Rattle.records.specs.declared.Record.{Record}
 use Rattle.records.specs.Refusals.{refusalsOf}
 use Rattle.records.proofs.Passed.{none-after-own}
-use Rattle.endpoints.specs.Values.{isRecorded, dayValue}
-use Rattle.endpoints.specs.StudyRecords.{Baseline, StudyRecord, onStudyDay}
-use Rattle.endpoints.specs.Lawful.{Past, deathDay, lawfulBehind}
-use Rattle.endpoints.specs.Course.{Course, course, deathIn, treated, visitsIn, firstPD, progression, counting}
-use Rattle.endpoints.specs.Pfs.{beforeEvent, lastVisit, lastEvaluable, pfsOf, pfs}
-use Rattle.endpoints.specs.Best.{confirmedCR, confirmedResponse, stable, best, firstResponse, durationOf, duration}
-use Rattle.endpoints.specs.Lines.{linesOf}
-use Rattle.endpoints.specs.Settled.{pfsSettledBy, bestSettledBy, durationSettledBy, pfsSettled, bestSettled, durationSettled, outcome}
-use Rattle.endpoints.specs.Adding.{refusalsBehind}
-use Rattle.endpoints.proofs.Behind.{latest-in, death-in}
-use Rattle.endpoints.proofs.Refusals.{one-more}
-use Rattle.held.specs.declared.Subject.{Subject}
-use Rattle.held.specs.Range.{inRange}
-use Rattle.held.specs.Days.{maybe}
-use Rattle.held.specs.Summary.{eventOf, countedOf, summary}
-use Rattle.held.proofs.Follows.{day-of-maybe, best-of-held}
-use Rattle.placing.specs.Promises.{responsesBy, subjectBy, refusalHeld}
-use Rattle.placing.proofs.Follows.{refusals-follow, lines-follow, adding-follows}
+use Rattle.outcome_rules.specs.Values.{isRecorded, dayValue}
+use Rattle.outcome_rules.specs.StudyRecords.{Baseline, StudyRecord, onStudyDay}
+use Rattle.outcome_rules.specs.Lawful.{Past, deathDay, lawfulBehind}
+use Rattle.outcome_rules.specs.Course.{Course, course, deathIn, treated, visitsIn, firstPD, progression, counting}
+use Rattle.outcome_rules.specs.Pfs.{beforeEvent, lastVisit, lastEvaluable, pfsOf, pfs}
+use Rattle.outcome_rules.specs.Best.{confirmedCR, confirmedResponse, stable, best, firstResponse, durationOf, duration}
+use Rattle.outcome_rules.specs.Lines.{linesOf}
+use Rattle.outcome_rules.specs.Settled.{pfsSettledBy, bestSettledBy, durationSettledBy, pfsSettled, bestSettled, durationSettled, outcome}
+use Rattle.outcome_rules.specs.Adding.{refusalsBehind}
+use Rattle.outcome_rules.proofs.Behind.{latest-in, death-in}
+use Rattle.outcome_rules.proofs.Refusals.{one-more}
+use Rattle.subject.specs.declared.Subject.{Subject}
+use Rattle.subject.specs.Range.{inRange}
+use Rattle.subject.specs.Days.{maybe}
+use Rattle.subject.specs.Summary.{eventOf, countedOf, summary}
+use Rattle.subject.proofs.Follows.{day-of-maybe, best-of-held}
+use Rattle.adding.specs.Promises.{responsesBy, subjectBy, refusalHeld}
+use Rattle.adding.proofs.Follows.{refusals-follow, lines-follow, adding-follows}
 use Rattle.outcome.specs.Promises.{pfsHeld, bestHeld, durationHeld, pfsSettledHeld, bestSettledHeld, outcomeOf}
 
 module _ (randomisation : Date) (b : Baseline) (p : Past) where

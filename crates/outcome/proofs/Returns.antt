@@ -5,17 +5,17 @@ use mathlib.Core.Bool.{Bool, true, false, not, _||_}
 use lib.Dec.{leb}
 use borrow.Author.Tests.{not-true, not-false}
 use Rattle.dates.specs.declared.StudyDay.{StudyDay}
-use Rattle.endpoints.specs.declared.PfsResult.{PfsResult}
-use Rattle.endpoints.specs.declared.BestResponse.{BestResponse}
-use Rattle.endpoints.specs.declared.DurationResult.{DurationResult}
-use Rattle.endpoints.specs.declared.DurationAnswer.{DurationAnswer}
-use Rattle.endpoints.specs.declared.DurationAnswer.the-variants as D
-use Rattle.endpoints.specs.Values.{isRecorded, dayValue, pfsValues, bestWord, durationValues}
-use Rattle.endpoints.specs.Pfs.{earlyDeath}
-use Rattle.endpoints.specs.Best.{isCR, durationOf}
-use Rattle.endpoints.specs.Settled.{settledFrom, pfsSettledBy, bestSettledBy, durationSettledBy}
-use Rattle.held.specs.declared.Subject.{Subject}
-use Rattle.held.specs.Range.{enrolmentInRange, followUpInRange, inRange}
+use Rattle.outcome_rules.specs.declared.PfsResult.{PfsResult}
+use Rattle.outcome_rules.specs.declared.BestResponse.{BestResponse}
+use Rattle.outcome_rules.specs.declared.DurationResult.{DurationResult}
+use Rattle.outcome_rules.specs.declared.DurationAnswer.{DurationAnswer}
+use Rattle.outcome_rules.specs.declared.DurationAnswer.the-variants as D
+use Rattle.outcome_rules.specs.Values.{isRecorded, dayValue, pfsValues, bestWord, durationValues}
+use Rattle.outcome_rules.specs.Pfs.{earlyDeath}
+use Rattle.outcome_rules.specs.Best.{isCR, durationOf}
+use Rattle.outcome_rules.specs.Settled.{settledFrom, pfsSettledBy, bestSettledBy, durationSettledBy}
+use Rattle.subject.specs.declared.Subject.{Subject}
+use Rattle.subject.specs.Range.{enrolmentInRange, followUpInRange, inRange}
 use Rattle.outcome.specs.declared.OutcomeResult.{OutcomeResult}
 use Rattle.outcome.specs.declared.OutcomeAnswer.the-variants as R
 use Rattle.outcome.specs.Promises.{outcomeValues, pfsHeld, bestHeld, outcomeOf, readingOf, Told}

@@ -11,16 +11,16 @@ use Rattle.records.specs.declared.Record.{Record}
 use Rattle.records.specs.Form.{Five}
 use Rattle.records.specs.Refusals.{refusalsOf}
 use Rattle.records.proofs.Passed.{each-own}
-use Rattle.endpoints.specs.declared.PfsStatus.the-variants as P
-use Rattle.endpoints.specs.declared.DurationAnswer.the-variants as D
-use Rattle.endpoints.specs.Values.{PfsWord, EVENT, CENSORED, Duration, noDuration, forDays, wordOfStatus, durationValues}
-use Rattle.endpoints.specs.Adding.{notBaseline, refusalsOfOpening, Call, add, read}
-use Rattle.held.specs.declared.Subject.{Subject}
-use Rattle.opening.specs.declared.OpenAnswer.{OpenAnswer}
-use Rattle.opening.specs.declared.OpenAnswer.the-variants as N
-use Rattle.opening.specs.Opening.{openNumber, openedSubject, Opened}
-use Rattle.held.specs.Range.{inRange}
-use Rattle.placing.specs.Promises.{subjectBy, refusalHeld}
+use Rattle.outcome_rules.specs.declared.PfsStatus.the-variants as P
+use Rattle.outcome_rules.specs.declared.DurationAnswer.the-variants as D
+use Rattle.outcome_rules.specs.Values.{PfsWord, EVENT, CENSORED, Duration, noDuration, forDays, wordOfStatus, durationValues}
+use Rattle.outcome_rules.specs.Adding.{notBaseline, refusalsOfOpening, Call, add, read}
+use Rattle.subject.specs.declared.Subject.{Subject}
+use Rattle.subject.specs.declared.OpenAnswer.{OpenAnswer}
+use Rattle.subject.specs.declared.OpenAnswer.the-variants as N
+use Rattle.subject.specs.Opening.{openNumber, openedSubject, Opened}
+use Rattle.subject.specs.Range.{inRange}
+use Rattle.adding.specs.Promises.{subjectBy, refusalHeld}
 use Rattle.outcome.specs.declared.OutcomeAnswer.{OutcomeAnswer}
 use Rattle.outcome.specs.declared.OutcomeAnswer.the-variants as R
 use Rattle.outcome.specs.Promises.{pfsHeld, durationHeld, outcomeOf, readingOf, Told}

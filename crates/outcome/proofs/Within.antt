@@ -16,25 +16,25 @@ use Rattle.records.specs.Refusals.{refusalsOf}
 use Rattle.records.proofs.Passed.{Passes, passes, after-own, none-after-own, small-baseline}
 use Rattle.codec.specs.Reading.{refusalsOfBytes, refusalOfBytes, recordOfBytes}
 use Rattle.codec.proofs.Fine.{after-reading, found-fine}
-use Rattle.criteria.specs.Words.{Word}
-use Rattle.endpoints.specs.declared.MaybeDay.{MaybeDay}
-use Rattle.endpoints.specs.declared.MaybeDay.the-variants as M
-use Rattle.endpoints.specs.Values.{orDay1, Pfs, noDuration, forDays, event, censored, dayValue}
-use Rattle.endpoints.specs.Pfs.{twoMissed, earlyDeath, pfsOf}
-use Rattle.endpoints.specs.Best.{isResponse, durationOf}
-use Rattle.endpoints.specs.Adding.{notBaseline, refusalsOfOpening, refusalOfOpening}
-use Rattle.held.specs.declared.Subject.{Subject}
-use Rattle.opening.specs.Opening.{openNumber, subjectOf, openedSubject, Opened}
-use Rattle.held.specs.Range.{inRange}
-use Rattle.held.specs.Laws.{Within, AbsentOrWithin, SubjectWithin}
-use Rattle.held.proofs.Within.{subject-within, in-range}
-use Rattle.opening.proofs.Within.{blank-outside, opening-within}
-use Rattle.placing.specs.declared.AddAnswer.{AddAnswer}
-use Rattle.placing.specs.Lines.{addResponses}
-use Rattle.placing.specs.Refusals.{addNumber}
-use Rattle.placing.specs.Promises.{refusalsOnDay, addedOnDay, Answered, refusalHeld, Added, refusalFromBytes, AddedBytes}
-use Rattle.placing.proofs.Within.{adding-within}
-use Rattle.opening.specs.declared.OpenAnswer.{OpenAnswer}
+use Rattle.response_rules.specs.Words.{Word}
+use Rattle.outcome_rules.specs.declared.MaybeDay.{MaybeDay}
+use Rattle.outcome_rules.specs.declared.MaybeDay.the-variants as M
+use Rattle.outcome_rules.specs.Values.{orDay1, Pfs, noDuration, forDays, event, censored, dayValue}
+use Rattle.outcome_rules.specs.Pfs.{twoMissed, earlyDeath, pfsOf}
+use Rattle.outcome_rules.specs.Best.{isResponse, durationOf}
+use Rattle.outcome_rules.specs.Adding.{notBaseline, refusalsOfOpening, refusalOfOpening}
+use Rattle.subject.specs.declared.Subject.{Subject}
+use Rattle.subject.specs.Opening.{openNumber, subjectOf, openedSubject, Opened}
+use Rattle.subject.specs.Range.{inRange}
+use Rattle.subject.specs.Laws.{Within, AbsentOrWithin, SubjectWithin}
+use Rattle.subject.proofs.Within.{subject-within, in-range}
+use Rattle.subject.proofs.OpeningWithin.{blank-outside, opening-within}
+use Rattle.adding.specs.declared.AddAnswer.{AddAnswer}
+use Rattle.adding.specs.Lines.{addResponses}
+use Rattle.adding.specs.Refusals.{addNumber}
+use Rattle.adding.specs.Promises.{refusalsOnDay, addedOnDay, Answered, refusalHeld, Added, refusalFromBytes, AddedBytes}
+use Rattle.adding.proofs.Within.{adding-within}
+use Rattle.subject.specs.declared.OpenAnswer.{OpenAnswer}
 use Rattle.outcome.specs.declared.OutcomeAnswer.{OutcomeAnswer}
 use Rattle.outcome.specs.Promises.{refused, outcome, readingValues, pfsHeld, bestHeld, outcomeOf, readingOf, Told}
 use Rattle.outcome.specs.Laws.{DurationWithin, TellsWithin, CallsInRange}

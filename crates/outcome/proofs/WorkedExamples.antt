@@ -5,25 +5,25 @@ use mathlib.Core.Path.{refl}
 use Rattle.dates.specs.Calendar.{leapYear, daysInMonth, dateExists, daysOfYears, daysOfMonths, dayNumber}
 use Rattle.dates.specs.Answers.{studyDayOf}
 use Rattle.records.specs.Refusals.{wrongSize, largeMeasured, setBeyond, sizedUnmeasured, withoutDisease, outsideLimits, notZero, refusalsOfRead}
-use Rattle.criteria.specs.Sums.{measuredSum, baselineSum, allMeasured}
-use Rattle.criteria.specs.Targets.{allGone, grown, shrunk, targetAnswer}
-use Rattle.criteria.specs.Nadir.{afterVisit}
-use Rattle.criteria.specs.Overall.{overallBy}
-use Rattle.criteria.specs.Visits.{overallAnswer}
-use Rattle.criteria.specs.Change.{changeBetween, changeOf}
-use Rattle.endpoints.specs.Lines.{lineOf}
-use Rattle.endpoints.specs.Lawful.{measuredBeyond, fitsBy, fits}
-use Rattle.endpoints.specs.Course.{answerAt}
-use Rattle.endpoints.specs.Pfs.{gapLimit, earlyDeath, pfs}
-use Rattle.endpoints.specs.Best.{best, duration}
-use Rattle.endpoints.specs.Settled.{settledFrom, pfsSettledBy, bestSettledBy, durationSettledBy, pfsSettled, bestSettled, durationSettled}
-use Rattle.endpoints.specs.Adding.{refusalsBehind, refusalsOfAdding}
-use Rattle.held.specs.Range.{enrolmentInRange, followUpInRange, inRange}
-use Rattle.held.specs.Visits.{eventAfter, countedAfter}
-use Rattle.opening.specs.Opening.{blank}
-use Rattle.placing.specs.Added.{answerOn, visitAdded}
-use Rattle.placing.specs.Refusals.{refusalsOn}
-use Rattle.placing.specs.Promises.{refusalHeld}
+use Rattle.response_rules.specs.Sums.{measuredSum, baselineSum, allMeasured}
+use Rattle.response_rules.specs.Targets.{allGone, grown, shrunk, targetAnswer}
+use Rattle.response_rules.specs.Nadir.{afterVisit}
+use Rattle.response_rules.specs.Overall.{overallBy}
+use Rattle.response_rules.specs.Visits.{overallAnswer}
+use Rattle.response_rules.specs.Change.{changeBetween, changeOf}
+use Rattle.outcome_rules.specs.Lines.{lineOf}
+use Rattle.outcome_rules.specs.Lawful.{measuredBeyond, fitsBy, fits}
+use Rattle.outcome_rules.specs.Course.{answerAt}
+use Rattle.outcome_rules.specs.Pfs.{gapLimit, earlyDeath, pfs}
+use Rattle.outcome_rules.specs.Best.{best, duration}
+use Rattle.outcome_rules.specs.Settled.{settledFrom, pfsSettledBy, bestSettledBy, durationSettledBy, pfsSettled, bestSettled, durationSettled}
+use Rattle.outcome_rules.specs.Adding.{refusalsBehind, refusalsOfAdding}
+use Rattle.subject.specs.Range.{enrolmentInRange, followUpInRange, inRange}
+use Rattle.subject.specs.Visits.{eventAfter, countedAfter}
+use Rattle.subject.specs.Opening.{blank}
+use Rattle.adding.specs.Added.{answerOn, visitAdded}
+use Rattle.adding.specs.Refusals.{refusalsOn}
+use Rattle.adding.specs.Promises.{refusalHeld}
 use Rattle.outcome.specs.Promises.{outcomeOf, readingOf}
 use Rattle.outcome.specs.Examples.{FirstRefusals, ReadAtTheEdges, RepliesAtTheEdges, ValuesOfCases}
 

@@ -7,19 +7,19 @@ use mathlib.Core.Logic.{_↔_}
 use Prim.Native.Nat.{ℕ}
 use Rattle.records.specs.declared.Record.{Record}
 use Rattle.records.specs.Form.{Five}
-use Rattle.endpoints.specs.Values.{Outcome}
-use Rattle.endpoints.specs.StudyRecords.{Baseline, StudyRecord, onStudyDays, fromBaseline}
-use Rattle.endpoints.specs.Lawful.{lawful}
-use Rattle.endpoints.specs.Lasting.{outcomeInOrder, LastsInOrder}
-use Rattle.endpoints.specs.Lines.{VisitLine}
-use Rattle.endpoints.specs.Adding.{refusalOfAdding, responsesOfAdding, Call, add, read, acceptedAfter, accepted}
-use Rattle.held.specs.declared.Subject.{Subject}
-use Rattle.opening.specs.Opening.{openNumber, Opened}
-use Rattle.placing.specs.declared.AddAnswer.{AddAnswer}
-use Rattle.placing.specs.Lines.{addResponses}
-use Rattle.placing.specs.Refusals.{addNumber}
-use Rattle.placing.specs.Promises.{Added}
-use Rattle.opening.specs.declared.OpenAnswer.{OpenAnswer}
+use Rattle.outcome_rules.specs.Values.{Outcome}
+use Rattle.outcome_rules.specs.StudyRecords.{Baseline, StudyRecord, onStudyDays, fromBaseline}
+use Rattle.outcome_rules.specs.Lawful.{lawful}
+use Rattle.outcome_rules.specs.Lasting.{outcomeInOrder, LastsInOrder}
+use Rattle.outcome_rules.specs.Lines.{VisitLine}
+use Rattle.outcome_rules.specs.Adding.{refusalOfAdding, responsesOfAdding, Call, add, read, acceptedAfter, accepted}
+use Rattle.subject.specs.declared.Subject.{Subject}
+use Rattle.subject.specs.Opening.{openNumber, Opened}
+use Rattle.adding.specs.declared.AddAnswer.{AddAnswer}
+use Rattle.adding.specs.Lines.{addResponses}
+use Rattle.adding.specs.Refusals.{addNumber}
+use Rattle.adding.specs.Promises.{Added}
+use Rattle.subject.specs.declared.OpenAnswer.{OpenAnswer}
 use Rattle.outcome.specs.declared.OutcomeAnswer.{OutcomeAnswer}
 use Rattle.outcome.specs.Promises.{Reading, refused, outcome, readingValues, Told}
 

@@ -9,23 +9,23 @@ use Rattle.dates.specs.Laws.{ymd}
 use Rattle.records.specs.Examples.{visitDated, therapyDated}
 use Rattle.records.specs.declared.Record.{Record}
 use Rattle.records.specs.declared.Status.the-variants as S
-use Rattle.criteria.specs.Words.{Word, CR, PR, SD, PD, NE, NN}
-use Rattle.criteria.specs.Change.{signed}
-use Rattle.endpoints.specs.declared.BestResponse.the-variants as B
-use Rattle.endpoints.specs.declared.DurationAnswer.the-variants as D
-use Rattle.endpoints.specs.declared.MaybeDay.{MaybeDay}
-use Rattle.endpoints.specs.declared.MaybeDay.the-variants as M
-use Rattle.endpoints.specs.declared.PfsStatus.the-variants as E
-use Rattle.endpoints.specs.Values.{Pfs, Duration, Outcome, CENSORED, EVENT, event, censored, noDuration, forDays}
-use Rattle.endpoints.specs.Adding.{add, read}
-use Rattle.endpoints.specs.AddingExamples.{printedBaseline, visited}
-use Rattle.held.specs.declared.EventDays.{EventDays}
-use Rattle.held.specs.declared.CountingVisits.{CountingVisits}
-use Rattle.held.specs.declared.Subject.{Subject}
-use Rattle.held.specs.Examples.{day, onDay, events, counts, noEvents, noCounts, disease, subjectWith, printedOpened, printedVisited}
-use Rattle.opening.specs.Opening.{blank}
-use Rattle.placing.specs.Promises.{subjectBy, refusalHeld}
-use Rattle.placing.specs.Examples.{treated, died}
+use Rattle.response_rules.specs.Words.{Word, CR, PR, SD, PD, NE, NN}
+use Rattle.response_rules.specs.Change.{signed}
+use Rattle.outcome_rules.specs.declared.BestResponse.the-variants as B
+use Rattle.outcome_rules.specs.declared.DurationAnswer.the-variants as D
+use Rattle.outcome_rules.specs.declared.MaybeDay.{MaybeDay}
+use Rattle.outcome_rules.specs.declared.MaybeDay.the-variants as M
+use Rattle.outcome_rules.specs.declared.PfsStatus.the-variants as E
+use Rattle.outcome_rules.specs.Values.{Pfs, Duration, Outcome, CENSORED, EVENT, event, censored, noDuration, forDays}
+use Rattle.outcome_rules.specs.Adding.{add, read}
+use Rattle.outcome_rules.specs.AddingExamples.{printedBaseline, visited}
+use Rattle.subject.specs.declared.EventDays.{EventDays}
+use Rattle.subject.specs.declared.CountingVisits.{CountingVisits}
+use Rattle.subject.specs.declared.Subject.{Subject}
+use Rattle.subject.specs.Examples.{day, onDay, events, counts, noEvents, noCounts, disease, subjectWith, printedOpened, printedVisited}
+use Rattle.subject.specs.Opening.{blank}
+use Rattle.adding.specs.Promises.{subjectBy, refusalHeld}
+use Rattle.adding.specs.Examples.{treated, died}
 use Rattle.outcome.specs.Promises.{Reading, refused, outcome, readingValues, readingOf}
 use Rattle.outcome.specs.Demand3.{added, told, replies}
 use Rattle.outcome.specs.declared.OutcomeAnswer.the-variants as A

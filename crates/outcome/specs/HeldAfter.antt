@@ -4,12 +4,12 @@ use mathlib.Core.Path.{_≡_}
 use mathlib.Core.List.{List, [], _∷_, reverse}
 use Rattle.records.specs.declared.Record.{Record}
 use Rattle.records.specs.Form.{dateOf}
-use Rattle.endpoints.specs.StudyRecords.{Baseline, StudyRecord, onStudyDays, fromBaseline}
-use Rattle.endpoints.specs.Adding.{Call, accepted}
-use Rattle.held.specs.declared.Subject.{Subject}
-use Rattle.held.specs.Summary.{summary}
-use Rattle.opening.specs.declared.OpenAnswer.{OpenAnswer}
-use Rattle.opening.specs.Opening.{openNumber, Opened}
+use Rattle.outcome_rules.specs.StudyRecords.{Baseline, StudyRecord, onStudyDays, fromBaseline}
+use Rattle.outcome_rules.specs.Adding.{Call, accepted}
+use Rattle.subject.specs.declared.Subject.{Subject}
+use Rattle.subject.specs.Summary.{summary}
+use Rattle.subject.specs.declared.OpenAnswer.{OpenAnswer}
+use Rattle.subject.specs.Opening.{openNumber, Opened}
 use Rattle.outcome.specs.Demand3.{Reply, Calls}
 
 -- the subject is the summary of records in the order recorded, baseline first

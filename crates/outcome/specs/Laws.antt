@@ -6,16 +6,16 @@ use mathlib.Core.List.{List, []}
 use Prim.Native.Nat.{ℕ}
 use Rattle.records.specs.declared.Record.{Record}
 use Rattle.codec.specs.Reading.{refusalOfBytes, recordOfBytes}
-use Rattle.endpoints.specs.Values.{Duration, noDuration, forDays}
-use Rattle.held.specs.declared.Subject.{Subject}
-use Rattle.held.specs.Range.{inRange}
-use Rattle.opening.specs.Opening.{blank, openNumber, Opened}
-use Rattle.held.specs.Laws.{Within}
-use Rattle.placing.specs.declared.AddAnswer.{AddAnswer}
-use Rattle.placing.specs.Refusals.{addNumber}
-use Rattle.placing.specs.Lines.{addResponses}
-use Rattle.placing.specs.Promises.{Added, AddedBytes}
-use Rattle.opening.specs.declared.OpenAnswer.{OpenAnswer}
+use Rattle.outcome_rules.specs.Values.{Duration, noDuration, forDays}
+use Rattle.subject.specs.declared.Subject.{Subject}
+use Rattle.subject.specs.Range.{inRange}
+use Rattle.subject.specs.Opening.{blank, openNumber, Opened}
+use Rattle.subject.specs.Laws.{Within}
+use Rattle.adding.specs.declared.AddAnswer.{AddAnswer}
+use Rattle.adding.specs.Refusals.{addNumber}
+use Rattle.adding.specs.Lines.{addResponses}
+use Rattle.adding.specs.Promises.{Added, AddedBytes}
+use Rattle.subject.specs.declared.OpenAnswer.{OpenAnswer}
 use Rattle.outcome.specs.declared.OutcomeAnswer.{OutcomeAnswer}
 use Rattle.outcome.specs.Promises.{Reading, refused, outcome, readingValues, Told}
 

@@ -4,13 +4,13 @@ use mathlib.Core.Path.{_≡_}
 use mathlib.Core.Bool.{Bool}
 use Prim.Native.Nat.{ℕ}
 use Rattle.laws.specs.Choice.{pick}
-use Rattle.criteria.specs.Words.{Word}
-use Rattle.endpoints.specs.Values.{isRecorded, Pfs, Duration, Outcome, dayValue, pfsValues, bestWord, durationValues}
-use Rattle.endpoints.specs.Pfs.{pfsOf}
-use Rattle.endpoints.specs.Best.{durationOf}
-use Rattle.endpoints.specs.Settled.{pfsSettledBy, bestSettledBy, durationSettledBy}
-use Rattle.held.specs.declared.Subject.{Subject}
-use Rattle.held.specs.Range.{inRange}
+use Rattle.response_rules.specs.Words.{Word}
+use Rattle.outcome_rules.specs.Values.{isRecorded, Pfs, Duration, Outcome, dayValue, pfsValues, bestWord, durationValues}
+use Rattle.outcome_rules.specs.Pfs.{pfsOf}
+use Rattle.outcome_rules.specs.Best.{durationOf}
+use Rattle.outcome_rules.specs.Settled.{pfsSettledBy, bestSettledBy, durationSettledBy}
+use Rattle.subject.specs.declared.Subject.{Subject}
+use Rattle.subject.specs.Range.{inRange}
 use Rattle.outcome.specs.declared.OutcomeResult.{OutcomeResult}
 use Rattle.outcome.specs.declared.OutcomeAnswer.{OutcomeAnswer}
 use Rattle.outcome.specs.declared.OutcomeAnswer.the-variants as A

@@ -1,8 +1,8 @@
 // The outcome of a held subject with the settled marks (document 01, "Outcome", "Settled" and "Where a call stops", 12). Demand 3, over any
 // list of additions and readings, is proved here.
-use endpoints::BestResponse;
-use endpoints::DurationAnswer;
-use endpoints::PfsResult;
+use outcome_rules::BestResponse;
+use outcome_rules::DurationAnswer;
+use outcome_rules::PfsResult;
 
 mod settled; // settled.rt: the marks
 mod reading; // reading.rt: the outcome of a held subject

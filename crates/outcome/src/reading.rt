@@ -5,10 +5,10 @@ use super::SettledMarks;
 use super::settled::best_settled;
 use super::settled::duration_settled;
 use super::settled::pfs_settled;
-use held::Subject;
-use results::duration_of;
-use results::is_recorded;
-use results::pfs_of;
+use outcome_values::duration_of;
+use outcome_values::is_recorded;
+use outcome_values::pfs_of;
+use subject::Subject;
 ghost use mathlib.Core.Path.{_≡_};
 ghost use Rattle.outcome.specs.Promises.{outcomeValues, outcomeOf, Told};
 
@@ -49,10 +49,10 @@ pub fn read_outcome(s: Subject) -> OutcomeAnswer
 {
     let enrolment = s.enrolment;
     let followup = s.followup;
-    if !held::enrolment_in_range(enrolment) {
+    if !subject::enrolment_in_range(enrolment) {
         return OutcomeAnswer::OutOfRange;
     }
-    if !held::followup_in_range(followup) {
+    if !subject::followup_in_range(followup) {
         return OutcomeAnswer::OutOfRange;
     }
     let outcome = outcome_of(s);

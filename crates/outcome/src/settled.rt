@@ -1,12 +1,12 @@
 // The marks.
 use dates::StudyDay;
-use endpoints::BestResponse;
-use endpoints::DurationAnswer;
-use results::EARLY_DEATH;
+use outcome_rules::BestResponse;
+use outcome_rules::DurationAnswer;
+use outcome_values::EARLY_DEATH;
 ghost use mathlib.Core.Path.{_≡_};
-ghost use Rattle.endpoints.specs.Values.{bestWord, durationValues};
-ghost use Rattle.endpoints.specs.Best.{isCR};
-ghost use Rattle.endpoints.specs.Settled.{pfsSettledBy, bestSettledBy, durationSettledBy};
+ghost use Rattle.outcome_rules.specs.Values.{bestWord, durationValues};
+ghost use Rattle.outcome_rules.specs.Best.{isCR};
+ghost use Rattle.outcome_rules.specs.Settled.{pfsSettledBy, bestSettledBy, durationSettledBy};
 
 // From this day on no death is an early one.
 const SETTLED_FROM: u32 = EARLY_DEATH + 2;

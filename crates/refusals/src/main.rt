@@ -1,19 +1,19 @@
 // Where a call stops (document 01): each refusal, the orders in which they are judged, and the longest file. The file `stdout`, to which what is printed
 // is held, is worked out by hand from document 01.
+use adding::AddAnswer;
 use codec::ReadAnswer;
 use dates::StudyDay;
-use endpoints::BestResponse;
-use endpoints::MaybeDay;
 use file::FileAnswer;
 use file::FileRefusal;
-use held::CountingVisits;
-use held::EventDays;
-use held::FollowUp;
-use held::Subject;
-use opening::OpenAnswer;
-use placing::AddAnswer;
+use outcome_rules::BestResponse;
+use outcome_rules::MaybeDay;
 use records::OwnRefusal;
 use records::Record;
+use subject::CountingVisits;
+use subject::EventDays;
+use subject::FollowUp;
+use subject::OpenAnswer;
+use subject::Subject;
 use writing::WriteAnswer;
 
 fn text(line: &[u8]) {
@@ -154,12 +154,12 @@ fn print_written(answer: WriteAnswer) {
 
 fn print_opened(answer: OpenAnswer) {
     text(b"A ");
-    io::print_decimal(libc::STDOUT_FILENO, opening::open_number(answer) as u64);
+    io::print_decimal(libc::STDOUT_FILENO, subject::open_number(answer) as u64);
 }
 
 fn print_added(answer: AddAnswer) {
     text(b" ");
-    io::print_decimal(libc::STDOUT_FILENO, placing::add_number(answer) as u64);
+    io::print_decimal(libc::STDOUT_FILENO, adding::add_number(answer) as u64);
 }
 
 // 1 and 6 meet no file.
@@ -179,14 +179,14 @@ fn bytes_of_one() {
 // What opening, adding, adding to a subject out of range, and writing into ten bytes answer for a record that 4 or 5 meets.
 fn own_refusal(name: &[u8], r: Record, held: Subject) {
     text(name);
-    let opened = opening::open_subject(r);
+    let opened = subject::open_subject(r);
     let unopened = opened.answer;
     let blank = opened.subject;
     print_opened(unopened);
-    let added = placing::added(held, r);
+    let added = adding::added(held, r);
     let unadded = added.answer;
     print_added(unadded);
-    let outside = placing::added(blank, r);
+    let outside = adding::added(blank, r);
     let unjudged = outside.answer;
     print_added(unjudged);
     text(b"\n");
@@ -201,7 +201,7 @@ fn own_refusals() {
     let found = baseline.found;
     let entry = found.entry;
     let marks = found.marks;
-    let opened = opening::open_subject(found);
+    let opened = subject::open_subject(found);
     let held = opened.subject;
     let large = Record {
         entry: entry,
@@ -221,7 +221,7 @@ fn own_refusals() {
 fn late_response() {
     let baseline = codec::read(b"\x2F\xC8\x21\xD0\x28\x82\x80\x00\x00\x00\x00");
     let found = baseline.found;
-    let opened = opening::open_subject(found);
+    let opened = subject::open_subject(found);
     let s = opened.subject;
     let enrolment = s.enrolment;
     let earlier = s.followup.earlier;

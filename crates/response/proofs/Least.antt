@@ -5,11 +5,11 @@ use mathlib.Core.Bool.{Bool, true, false, not}
 use Prim.Native.Nat.{ℕ, _≤_, _<_, min}
 use native.Mathlib.Omega.{arith}
 use borrow.Author.Tests.{not-false, not-true}
-use Rattle.criteria.specs.Inputs.{Visit}
-use Rattle.criteria.specs.Sums.{measuredSum, allMeasured}
-use Rattle.criteria.specs.Nadir.{afterVisit}
-use Rattle.criteria.specs.declared.BaselineDisease.{BaselineDisease}
-use Rattle.criteria.specs.declared.Earlier.{Earlier}
+use Rattle.response_rules.specs.Inputs.{Visit}
+use Rattle.response_rules.specs.Sums.{measuredSum, allMeasured}
+use Rattle.response_rules.specs.Nadir.{afterVisit}
+use Rattle.response_rules.specs.declared.BaselineDisease.{BaselineDisease}
+use Rattle.response_rules.specs.declared.Earlier.{Earlier}
 
 abbrev withNadir : ℕ → Earlier
 withNadir n = record { nadir = n }

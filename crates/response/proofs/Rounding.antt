@@ -5,10 +5,10 @@ use mathlib.Core.Bool.{Bool, true, false, not}
 use Prim.Native.Nat.{ℕ, _+_, _-_, _*_, _≤_, _<_}
 use native.Mathlib.Omega.{arith}
 use borrow.Author.Tests.{lt-ltb, le-ltb, eq-eqb, ne-eqb}
-use Rattle.criteria.specs.Inputs.{Visit}
-use Rattle.criteria.specs.Sums.{measuredSum, allMeasured}
-use Rattle.criteria.specs.Change.{Tenths, none, signed, nearest, changeBetween, changeOf}
-use Rattle.criteria.specs.declared.BaselineDisease.{BaselineDisease}
+use Rattle.response_rules.specs.Inputs.{Visit}
+use Rattle.response_rules.specs.Sums.{measuredSum, allMeasured}
+use Rattle.response_rules.specs.Change.{Tenths, none, signed, nearest, changeBetween, changeOf}
+use Rattle.response_rules.specs.declared.BaselineDisease.{BaselineDisease}
 
 module _ (baseline sum t : ℕ) where
   pub increase : baseline ≤ sum → t ≡ nearest (1000 * (sum - baseline)) baseline → signed false t ≡ changeBetween baseline sum

@@ -9,12 +9,12 @@ use lib.Dec.{eqb, leb}
 use borrow.Author.Tests.{eqb-true, le-leb, eq-eqb, ne-eqb}
 use Rattle.laws.specs.Choice.{both, either}
 use Rattle.laws.proofs.Tests.{either-with-false}
-use Rattle.criteria.specs.Words.{Word, CR, PR, SD, PD, NE, NA}
-use Rattle.criteria.specs.Inputs.{Visit}
-use Rattle.criteria.specs.Sums.{measuredSum, allMeasured}
-use Rattle.criteria.specs.Targets.{normalNode, gone, allGone, grown, shrunk, targetAnswer}
-use Rattle.criteria.specs.declared.BaselineDisease.{BaselineDisease}
-use Rattle.criteria.specs.declared.Earlier.{Earlier}
+use Rattle.response_rules.specs.Words.{Word, CR, PR, SD, PD, NE, NA}
+use Rattle.response_rules.specs.Inputs.{Visit}
+use Rattle.response_rules.specs.Sums.{measuredSum, allMeasured}
+use Rattle.response_rules.specs.Targets.{normalNode, gone, allGone, grown, shrunk, targetAnswer}
+use Rattle.response_rules.specs.declared.BaselineDisease.{BaselineDisease}
+use Rattle.response_rules.specs.declared.Earlier.{Earlier}
 
 -- a target that is normal or gone, as the code tests it
 pub gone-as-tested : (node : Bool) (size : ℕ) → either (eqb size 0) (both node (leb size normalNode)) ≡ gone node size

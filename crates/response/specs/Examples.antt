@@ -6,11 +6,11 @@ use Prim.Native.Nat.{ℕ}
 use Rattle.dates.specs.Laws.{ymd}
 use Rattle.records.specs.Examples.{fivePlaces}
 use Rattle.records.specs.declared.Status.the-variants as S
-use Rattle.criteria.specs.Inputs.{visitOf}
-use Rattle.criteria.specs.Examples.{printed}
-use Rattle.criteria.specs.declared.Target.the-variants as T
-use Rattle.criteria.specs.declared.Overall.the-variants as O
-use Rattle.criteria.specs.declared.ChangeAnswer.the-variants as C
+use Rattle.response_rules.specs.Inputs.{visitOf}
+use Rattle.response_rules.specs.Examples.{printed}
+use Rattle.response_rules.specs.declared.Target.the-variants as T
+use Rattle.response_rules.specs.declared.Overall.the-variants as O
+use Rattle.response_rules.specs.declared.ChangeAnswer.the-variants as C
 use Rattle.response.specs.Judging.{JudgesVisit}
 use Rattle.response.specs.declared.VisitAnswer.{VisitAnswer}
 

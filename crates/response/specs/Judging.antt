@@ -5,14 +5,14 @@ use mathlib.Core.Bool.{Bool}
 use mathlib.Core.List.{List, []}
 use Prim.Native.Nat.{ℕ}
 use Rattle.records.specs.declared.BaselineEntry.{BaselineEntry}
-use Rattle.criteria.specs.Words.{targetWord, overallWord}
-use Rattle.criteria.specs.Inputs.{Visit, diseaseOf}
-use Rattle.criteria.specs.Targets.{targetAnswer}
-use Rattle.criteria.specs.Nadir.{leftBy, afterVisit}
-use Rattle.criteria.specs.Visits.{overallAnswer}
-use Rattle.criteria.specs.Change.{changeValues, changeOf}
-use Rattle.criteria.specs.declared.BaselineDisease.{BaselineDisease}
-use Rattle.criteria.specs.declared.Earlier.{Earlier}
+use Rattle.response_rules.specs.Words.{targetWord, overallWord}
+use Rattle.response_rules.specs.Inputs.{Visit, diseaseOf}
+use Rattle.response_rules.specs.Targets.{targetAnswer}
+use Rattle.response_rules.specs.Nadir.{leftBy, afterVisit}
+use Rattle.response_rules.specs.Visits.{overallAnswer}
+use Rattle.response_rules.specs.Change.{changeValues, changeOf}
+use Rattle.response_rules.specs.declared.BaselineDisease.{BaselineDisease}
+use Rattle.response_rules.specs.declared.Earlier.{Earlier}
 use Rattle.response.specs.declared.BaselineAnswer.{BaselineAnswer}
 use Rattle.response.specs.declared.VisitAnswer.{VisitAnswer}
 

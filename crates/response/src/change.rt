@@ -1,11 +1,11 @@
 // The change from baseline.
-use criteria::BaselineDisease;
-use criteria::ChangeAnswer;
+use response_rules::BaselineDisease;
+use response_rules::ChangeAnswer;
 ghost use mathlib.Core.Path.{_≡_};
 ghost use Prim.Native.Nat.{_*_, _≤_};
-ghost use Rattle.criteria.specs.Inputs.{Visit};
-ghost use Rattle.criteria.specs.Sums.{measuredSum, allMeasured};
-ghost use Rattle.criteria.specs.Change.{nearest, changeValues, changeBetween, changeOf};
+ghost use Rattle.response_rules.specs.Inputs.{Visit};
+ghost use Rattle.response_rules.specs.Sums.{measuredSum, allMeasured};
+ghost use Rattle.response_rules.specs.Change.{nearest, changeValues, changeBetween, changeOf};
 
 // A part of the baseline sum in tenths of a percent.
 fn tenths(part: u32, baseline: u32) -> u64

@@ -1,16 +1,17 @@
 // Visit responses and the change from baseline (document 01, "Visit responses" and "Change in size, file and listing").
-use criteria::BaselineDisease;
-use criteria::ChangeAnswer;
-use criteria::Earlier;
-use criteria::Overall;
-use criteria::Target;
 use records::BaselineEntry;
 use records::VisitEntry;
-ghost use Rattle.criteria.specs.Inputs.{visitOf};
+use response_rules::BaselineDisease;
+use response_rules::ChangeAnswer;
+use response_rules::Earlier;
+use response_rules::Overall;
+use response_rules::Target;
+ghost use Rattle.response_rules.specs.Inputs.{visitOf};
 ghost use Rattle.response.specs.Judging.{JudgesBaseline, JudgesVisit};
 
 mod sums; // sums.rt: sums of sizes, and whether every target is measured
 mod targets; // targets.rt: the target answer
+mod grid; // grid.rt: the grid, and the overall answer
 mod nadir; // nadir.rt: the nadir after a visit
 mod change; // change.rt: the change from baseline
 

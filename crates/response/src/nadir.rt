@@ -1,10 +1,10 @@
 // The nadir after a visit.
-use criteria::Earlier;
+use response_rules::Earlier;
 ghost use mathlib.Core.Path.{_≡_};
-ghost use Rattle.criteria.specs.Inputs.{Visit};
-ghost use Rattle.criteria.specs.Sums.{measuredSum, allMeasured};
-ghost use Rattle.criteria.specs.Nadir.{afterVisit};
-ghost use Rattle.criteria.specs.declared.BaselineDisease.{BaselineDisease};
+ghost use Rattle.response_rules.specs.Inputs.{Visit};
+ghost use Rattle.response_rules.specs.Sums.{measuredSum, allMeasured};
+ghost use Rattle.response_rules.specs.Nadir.{afterVisit};
+ghost use Rattle.response_rules.specs.declared.BaselineDisease.{BaselineDisease};
 
 // From whether every target is measured and the sum of the measured.
 pub(crate) fn after_visit(earlier: Earlier, complete: bool, sum: u32) -> Earlier

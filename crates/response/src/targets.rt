@@ -1,13 +1,13 @@
 // The target answer: six rules, the first that applies.
 use super::sums::all_measured;
 use super::sums::measured_sum;
-use criteria::BaselineDisease;
-use criteria::Earlier;
-use criteria::Target;
+use response_rules::BaselineDisease;
+use response_rules::Earlier;
+use response_rules::Target;
 ghost use mathlib.Core.Path.{_≡_};
-ghost use Rattle.criteria.specs.Words.{targetWord};
-ghost use Rattle.criteria.specs.Inputs.{Visit};
-ghost use Rattle.criteria.specs.Targets.{gone, allGone, grown, shrunk, targetAnswer};
+ghost use Rattle.response_rules.specs.Words.{targetWord};
+ghost use Rattle.response_rules.specs.Inputs.{Visit};
+ghost use Rattle.response_rules.specs.Targets.{gone, allGone, grown, shrunk, targetAnswer};
 
 // The short axis in millimetres up to which a node is normal.
 const NORMAL_NODE: u16 = 9;

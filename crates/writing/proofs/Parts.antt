@@ -7,9 +7,9 @@ use Prim.Native.Nat.{ℕ, _^_, _<_, _≤_}
 use native.Mathlib.Omega.{arith}
 use lib.Dec.{lit<}
 use lib.ListN.{getD}
-use Rattle.packing.specs.Layout.{total, pack, unpack, Fit, bytes}
-use Rattle.packing.proofs.Packing.{pack-lt}
-use Rattle.packing.proofs.Append.{pack-append, unpack-parts, fit-append}
+use Rattle.laws.specs.Layout.{total, pack, unpack, Fit, bytes}
+use Rattle.laws.proofs.Packing.{pack-lt}
+use Rattle.laws.proofs.Append.{pack-append, unpack-parts, fit-append}
 use Rattle.dates.specs.Calendar.{dateExists}
 use Rattle.dates.proofs.Days.{exists, day-small}
 use Rattle.records.specs.Form.{dateOf, kindNumber, statusNumber}

@@ -9,9 +9,9 @@ use lib.ListN.{getD, length}
 use borrow.Author.Tests.{le-ltb, le-leb}
 use Rattle.laws.proofs.Some.{some-none}
 use Rattle.laws.proofs.Lists.{whole}
-use Rattle.packing.specs.Layout.{total, unpack, Fit, bytes}
-use Rattle.packing.proofs.Packing.{pack-lt, unpack-pack, pack-unpack}
-use Rattle.packing.proofs.Append.{fit-append}
+use Rattle.laws.specs.Layout.{total, unpack, Fit, bytes}
+use Rattle.laws.proofs.Packing.{pack-lt, unpack-pack, pack-unpack}
+use Rattle.laws.proofs.Append.{fit-append}
 use Rattle.records.specs.Form.{dateOf, Five, kindNumber, statusNumber}
 use Rattle.records.specs.Refusals.{mostTargets, setBeyond, targetAt, someTarget, notZero, refusalOf}
 use Rattle.records.specs.declared.Record.{Record}

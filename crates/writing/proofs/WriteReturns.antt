@@ -9,7 +9,7 @@ use lib.ListN.{length, drop}
 use borrow.Author.Tests.{lt-ltb, le-ltb}
 use Rattle.laws.specs.Choice.{pick}
 use Rattle.laws.specs.Refusals.{_when_, first}
-use Rattle.packing.specs.Layout.{pack, unpack, bytes}
+use Rattle.laws.specs.Layout.{pack, unpack, bytes}
 use Rattle.records.specs.Form.{dateOf, kindNumber, Five}
 use Rattle.records.specs.Refusals.{ownNumber, checkNumber, refusalOf}
 use Rattle.records.specs.declared.Record.{Record}

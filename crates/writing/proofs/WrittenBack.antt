@@ -9,9 +9,9 @@ use lib.Dec.{ltb, eqb}
 use lib.ListN.{getD}
 use borrow.Author.Tests.{eqb-true, eqb-false, ltb-false}
 use Rattle.laws.proofs.Every.{all-at}
-use Rattle.packing.specs.Layout.{total, pack, unpack, Fit, bytes, AreBytes}
-use Rattle.packing.proofs.Packing.{pack-lt, unpack-pack, pack-unpack}
-use Rattle.packing.proofs.Leading.{bytes-fit}
+use Rattle.laws.specs.Layout.{total, pack, unpack, Fit, bytes, AreBytes}
+use Rattle.laws.proofs.Packing.{pack-lt, unpack-pack, pack-unpack}
+use Rattle.laws.proofs.Leading.{bytes-fit}
 use Rattle.records.specs.Form.{statusNumber}
 use Rattle.records.specs.declared.Record.{Record}
 use Rattle.codec.specs.Bytes.{recordLength, bit, baselineLayout, visitLayout, spareLayout, layoutOf, fieldsOf, recordNumber, bytesOf, bytesNumber}

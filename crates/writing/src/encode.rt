@@ -6,7 +6,7 @@ ghost use mathlib.Core.Bool.{true, false};
 ghost use mathlib.Core.List.{_++_};
 ghost use Prim.Native.Nat.{ℕ, _+_, _*_, _^_, _<_, _≤_};
 ghost use lib.ListN.{length, getD, drop};
-ghost use Rattle.packing.specs.Layout.{pack, unpack, bytes};
+ghost use Rattle.laws.specs.Layout.{pack, unpack, bytes};
 ghost use Rattle.dates.specs.Calendar.{dateExists};
 ghost use Rattle.records.specs.Form.{dateOf, kindNumber, statusNumber};
 ghost use Rattle.records.specs.Refusals.{outsideLimits, notZero};

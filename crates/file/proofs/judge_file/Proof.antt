@@ -6,8 +6,8 @@ use borrow.Author.Needs.{needs}
 use native.Mathlib.Omega.{arith}
 use lib.ListN.{length}
 use Rattle.codec.specs.Bytes.{recordLength}
-use Rattle.parts.specs.Parts.{mostBytes}
-use Rattle.parts.proofs.Cut.{fair-length}
+use Rattle.codec.specs.Parts.{mostBytes}
+use Rattle.codec.proofs.Cut.{fair-length}
 use Rattle.file.proofs.Turns.{bad, first-refused, Standing, first-standing, turn-refused, turn, ended}
 use Rattle.file.proofs.judge_file.Statement.{statement}
 use Rattle.file.proofs.judge_file.Tie as tie

@@ -1,8 +1,8 @@
 -- `listing::outcomes::put_best` meets its contract.
 -- Assumes nothing.
 use borrow.Author.Needs.{needs}
-use Rattle.endpoints.specs.Values.{bestWord}
-use Rattle.text.specs.Text.{bestText}
+use Rattle.outcome_rules.specs.Values.{bestWord}
+use Rattle.listing_text.specs.Text.{bestText}
 use Rattle.listing.proofs.Writing.{then, word}
 use Rattle.listing.proofs.outcomes.put_best.Statement.{statement}
 use Rattle.listing.proofs.outcomes.put_best.Tie as tie

@@ -2,7 +2,7 @@
 -- Assumes nothing.
 use borrow.Author.Needs.{needs}
 use native.Mathlib.Omega.{arith}
-use Rattle.text.specs.Text.{durationText}
+use Rattle.listing_text.specs.Text.{durationText}
 use Rattle.listing.proofs.Bounds.{days-small}
 use Rattle.listing.proofs.Writing.{then}
 use Rattle.listing.proofs.outcomes.put_duration.Statement.{statement}

@@ -1,7 +1,7 @@
 -- `listing::outcomes::put_pfs` meets its contract.
 -- Assumes nothing.
 use borrow.Author.Needs.{needs}
-use Rattle.text.specs.Text.{pfsText}
+use Rattle.listing_text.specs.Text.{pfsText}
 use Rattle.listing.proofs.outcomes.put_pfs.Statement.{statement}
 use Rattle.listing.proofs.outcomes.put_pfs.Tie as tie
 

@@ -1,7 +1,7 @@
 -- `listing::outcomes::put_refusal` meets its contract.
 -- Assumes nothing.
 use borrow.Author.Needs.{needs}
-use Rattle.text.specs.Text.{refusalText}
+use Rattle.listing_text.specs.Text.{refusalText}
 use Rattle.listing.proofs.Writing.{then}
 use Rattle.listing.proofs.outcomes.put_refusal.Statement.{statement}
 use Rattle.listing.proofs.outcomes.put_refusal.Tie as tie

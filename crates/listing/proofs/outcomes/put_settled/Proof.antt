@@ -2,7 +2,7 @@
 -- Assumes nothing.
 use borrow.Author.Needs.{needs}
 use mathlib.Core.List.{[], _∷_}
-use Rattle.text.specs.Text.{settledText}
+use Rattle.listing_text.specs.Text.{settledText}
 use Rattle.listing.proofs.Writing.{then, as-text}
 use Rattle.listing.proofs.outcomes.put_settled.Statement.{statement}
 use Rattle.listing.proofs.outcomes.put_settled.Tie as tie

@@ -1,7 +1,7 @@
 -- `listing::visits::put_answers` meets its contract.
 -- Assumes nothing.
 use borrow.Author.Needs.{needs}
-use Rattle.criteria.specs.Words.{targetWord, statusWord, overallWord}
+use Rattle.response_rules.specs.Words.{targetWord, statusWord, overallWord}
 use Rattle.listing.proofs.Writing.{then, word}
 use Rattle.listing.proofs.visits.put_answers.Statement.{statement}
 use Rattle.listing.proofs.visits.put_answers.Tie as tie

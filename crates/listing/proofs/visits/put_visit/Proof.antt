@@ -1,7 +1,7 @@
 -- `listing::visits::put_visit` meets its contract.
 -- Assumes nothing.
 use borrow.Author.Needs.{needs}
-use Rattle.text.specs.Text.{visitText}
+use Rattle.listing_text.specs.Text.{visitText}
 use Rattle.listing.proofs.Writing.{then}
 use Rattle.listing.proofs.visits.put_visit.Statement.{statement}
 use Rattle.listing.proofs.visits.put_visit.Tie as tie

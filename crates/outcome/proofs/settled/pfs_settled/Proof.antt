@@ -1,7 +1,7 @@
 -- `outcome::settled::pfs_settled` meets its contract.
 -- Assumes nothing.
-use Rattle.endpoints.specs.Pfs.{earlyDeath}
-use Rattle.endpoints.specs.Settled.{settledFrom}
+use Rattle.outcome_rules.specs.Pfs.{earlyDeath}
+use Rattle.outcome_rules.specs.Settled.{settledFrom}
 use Rattle.outcome.proofs.Returns.{assessed-settled, missing-settled}
 use Rattle.outcome.proofs.settled.pfs_settled.Statement.{statement}
 use Rattle.outcome.proofs.settled.pfs_settled.Tie as tie

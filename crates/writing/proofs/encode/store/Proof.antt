@@ -4,7 +4,7 @@ use native.Mathlib.Omega.{arith}
 use native.Mathlib.Nat.{div-one}
 use lib.ListN.{length-set}
 use mathlib.Core.List.{_++_}
-use Rattle.packing.specs.Layout.{unpack, bytes}
+use Rattle.laws.specs.Layout.{unpack, bytes}
 use lib.Seq.{sets-eq}
 use borrow.Author.Needs.{needs}
 use Rattle.writing.proofs.encode.store.Statement.{statement}

@@ -1,0 +1,52 @@
+-- Document 01, "Where a call stops", 8 to 11, judged on the held subject.
+-- Assumes nothing.
+use Prim.Native.Nat.{ℕ}
+use mathlib.Core.Bool.{Bool, false, not}
+use mathlib.Core.List.{List, [], _∷_}
+use lib.Dec.{leb, ltb, eqb}
+use Rattle.laws.specs.Refusals.{Refusal, _when_}
+use Rattle.dates.specs.declared.StudyDay.{StudyDay}
+use Rattle.records.specs.declared.Entry.{Entry}
+use Rattle.records.specs.declared.Entry.the-variants as E
+use Rattle.records.specs.Form.{kindNumber}
+use Rattle.records.specs.Refusals.{ownNumber}
+use Rattle.outcome_rules.specs.Values.{isRecorded, dayValue}
+use Rattle.outcome_rules.specs.Lawful.{fitsBy}
+use Rattle.subject.specs.declared.Enrolment.{Enrolment}
+use Rattle.subject.specs.declared.FollowUp.{FollowUp}
+use Rattle.adding.specs.declared.AddAnswer.{AddAnswer}
+use Rattle.adding.specs.declared.AddAnswer.the-variants as A
+
+-- the number of each case in document 01; 0 where no refusal meets
+abbrev pub addNumber : AddAnswer → ℕ
+addNumber A.Done = 0
+addNumber (A.Judged v) = 0
+addNumber A.NotElevenBytes = 1
+addNumber A.NoSuchKind = 2
+addNumber A.SecondBaseline = 8
+addNumber A.AfterDeath = 9
+addNumber A.TooEarly = 10
+addNumber A.Misfit = 11
+addNumber A.OutOfRange = 12
+addNumber (A.Refused own) = ownNumber own
+
+-- each visit is later than the latest day so far, each therapy or death on or after it
+abbrev pub earlyOn : FollowUp → StudyDay → Entry → Bool
+earlyOn f day (E.Baseline b) = false
+earlyOn f day (E.Visit v) = leb (day .0) (f .latestday .0)
+earlyOn f day (E.Therapy d) = ltb (day .0) (f .latestday .0)
+earlyOn f day (E.Death d) = ltb (day .0) (f .latestday .0)
+
+abbrev pub misfitOn : Enrolment → Entry → List Bool → Bool
+misfitOn e (E.Baseline b) measured = false
+misfitOn e (E.Visit v) measured = not (fitsBy (e .disease .count) (e .nontarget) (v .status) measured)
+misfitOn e (E.Therapy d) measured = false
+misfitOn e (E.Death d) measured = false
+
+-- 9 after a death; 10 day too early; 11 visit doesn't fit baseline
+abbrev pub refusalsBy : FollowUp → Bool → Bool → List Refusal
+refusalsBy f early misfit = 9 when isRecorded (dayValue (f .deathday)) ∷ 10 when early ∷ 11 when misfit ∷ []
+
+-- 8 a baseline, before these
+unfoldable pub refusalsOn : Enrolment → FollowUp → StudyDay → Entry → List Bool → List Refusal
+refusalsOn e f day r marks = 8 when eqb (kindNumber r) 1 ∷ refusalsBy f (earlyOn f day r) (misfitOn e r marks)

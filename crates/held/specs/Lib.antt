@@ -1,6 +1,0 @@
-pub mod Days
-pub mod Range
-pub mod Visits
-pub mod Summary
-pub mod Laws
-pub mod Examples

@@ -1,4 +1,0 @@
-pub mod Follows
-pub mod Within
-mod Returns
-pub mod WorkedExamples

@@ -1,0 +1,135 @@
+-- A visit at which all disease is gone: behind any list it may be recorded on a later day, and its overall answer is CR.
+-- Assumes nothing.
+use mathlib.Core.Path.{_≡_, refl}
+use mathlib.Core.Bool.{Bool, true, false, not}
+use mathlib.Core.List.{List, [], _∷_}
+use Prim.Native.Nat.{ℕ, _<_}
+use lib.Dec.{leb, ltb, eqb}
+use lib.ListN.{length}
+use borrow.Author.Tests.{le-leb, lt-leb, lt-ltb, ltb-true, ltb-false, not-true}
+use Rattle.laws.specs.Choice.{both, either, pick}
+use Rattle.laws.proofs.Tests.{never, both-true, either-false, either-with-true}
+use Rattle.records.specs.declared.Status.the-variants as S
+use Rattle.records.specs.Form.{statusNumber}
+use Rattle.records.specs.declared.BaselineEntry.{BaselineEntry}
+use Rattle.records.specs.declared.Entry.{Entry}
+use Rattle.records.specs.declared.Entry.the-variants as E
+use Rattle.records.specs.Refusals.{mostTargets, wrongSize, largeMeasured, sizedUnmeasured, someTarget, withoutDisease, outsideLimits, notZero}
+use Rattle.response_rules.specs.Words.{CR, NA, statusWord}
+use Rattle.response_rules.specs.Inputs.{Visit}
+use Rattle.response_rules.specs.Sums.{allMeasured}
+use Rattle.response_rules.specs.Targets.{gone, allGone, targetAnswer}
+use Rattle.response_rules.specs.Overall.{overallBy}
+use Rattle.response_rules.specs.Visits.{overallAnswer, visitTarget, visitOverall}
+use Rattle.outcome_rules.specs.StudyRecords.{Baseline, baseline, visit, disease, entryPasses, entryOfBaseline, fieldsPass}
+use Rattle.outcome_rules.specs.Lawful.{Past, latestDay, died, measuredBeyond, fitsBy, fits, lawfulBehind}
+use Rattle.outcome_rules.specs.Course.{visitsOf, answerAt}
+
+-- every target measured with size 0, non-target disease CR where there was some
+unfoldable pub completeVisit : Baseline → Visit
+completeVisit b =
+    record {
+      status = pick (b .nontarget) S.CR S.NA;
+      newLesion = false;
+      measured = ltb 0 (b .count) ∷ ltb 1 (b .count) ∷ ltb 2 (b .count) ∷ ltb 3 (b .count) ∷ ltb 4 (b .count) ∷ [];
+      sizes = 0 ∷ 0 ∷ 0 ∷ 0 ∷ 0 ∷ [];
+    }
+
+-- at one place: within the count or beyond it
+within-or-beyond : (count i : ℕ) → either (leb count i) (ltb i count) ≡ true
+within-or-beyond count i = go (ltb i count) refl
+  where
+    go : (t : Bool) → ltb i count ≡ t → either (leb count i) t ≡ true
+    go true e = either-with-true (leb count i)
+    go false e = rw (le-leb count i (ltb-false i count e))
+
+not-both : (count i : ℕ) → both (leb count i) (ltb i count) ≡ false
+not-both count i = go (ltb i count) refl
+  where
+    go : (t : Bool) → ltb i count ≡ t → both (leb count i) t ≡ false
+    go true e = rw (lt-leb count i (ltb-true i count e))
+    go false e = rw (le-leb count i (ltb-false i count e))
+
+gone-zero : (node : Bool) → gone node 0 ≡ true
+gone-zero true = refl
+gone-zero false = refl
+
+not-large : (m : Bool) → largeMeasured m 0 ≡ false
+unfolding largeMeasured
+not-large true = refl
+not-large false = refl
+
+not-sized : (m : Bool) → sizedUnmeasured m 0 ≡ false
+unfolding sizedUnmeasured
+not-sized true = refl
+not-sized false = refl
+
+-- neither 4 nor 5 meets fields that pass
+pub limits-and-zeros : (e : Entry) (marks : List Bool) (sizes : List ℕ) → entryPasses e marks sizes ≡ true →
+    (outsideLimits e marks sizes ≡ false) × (notZero e marks sizes ≡ false)
+unfolding entryPasses
+limits-and-zeros e marks sizes passes =
+    let five = both (eqb (length marks) mostTargets) (eqb (length sizes) mostTargets) in
+    let met = either (outsideLimits e marks sizes) (notZero e marks sizes) in
+    either-false (outsideLimits e marks sizes) (notZero e marks sizes) (not-true met (both-true five (not met) passes .1))
+
+-- so an assessed baseline has disease
+with-disease : (b : BaselineEntry) (marks : List Bool) (sizes : List ℕ) → outsideLimits (E.Baseline b) marks sizes ≡ false → b .assessed ≡ true →
+    withoutDisease b ≡ false
+unfolding outsideLimits withoutDisease
+with-disease b marks sizes e assessed =
+    let wrong = someTarget (wrongSize (b .count)) marks sizes in
+    let limits : either (ltb mostTargets (b .count)) (either (withoutDisease b) wrong) ≡ false = rw assessed at e in
+    either-false (withoutDisease b) wrong (either-false (ltb mostTargets (b .count)) (either (withoutDisease b) wrong) limits .1) .0
+
+module _ (b : Baseline) where
+  complete-measured : allMeasured (b .count) (completeVisit b .measured) ≡ true
+  unfolding allMeasured completeVisit
+  complete-measured =
+      rw (within-or-beyond (b .count) 0, within-or-beyond (b .count) 1, within-or-beyond (b .count) 2, within-or-beyond (b .count) 3, within-or-beyond (b .count) 4)
+
+  complete-gone : allGone (b .count) (b .nodes) (completeVisit b .sizes) ≡ true
+  unfolding allGone completeVisit
+  complete-gone = simp (gone-zero, either-with-true)
+
+  complete-target : (vs : List Visit) → visitTarget (disease b) vs (completeVisit b) ≡ pick (eqb (b .count) 0) NA CR
+  unfolding targetAnswer
+  complete-target vs = rw (complete-measured, complete-gone)
+
+  -- a target or non-target disease
+  has-disease : fieldsPass (baseline b) ≡ true → b .assessed ≡ true → both (eqb (b .count) 0) (not (b .nontarget)) ≡ false
+  unfolding withoutDisease
+  has-disease passes assessed =
+      with-disease (entryOfBaseline b) (b .nodes) (b .sizes) (limits-and-zeros (E.Baseline (entryOfBaseline b)) (b .nodes) (b .sizes) passes .0) assessed
+
+  complete-overall : (vs : List Visit) → fieldsPass (baseline b) ≡ true → b .assessed ≡ true →
+      visitOverall (disease b) vs (completeVisit b) ≡ CR
+  unfolding overallBy overallAnswer completeVisit
+  complete-overall vs passes assessed = rw (complete-target vs, assessed) (go (eqb (b .count) 0) (b .nontarget) (has-disease passes assessed))
+    where
+      go : (z n : Bool) → both z (not n) ≡ false → overallBy true false (pick z NA CR) (statusWord (pick n S.CR S.NA)) ≡ CR
+      go true true e = refl
+      go true false e = absurd (never e)
+      go false true e = refl
+      go false false e = refl
+
+  pub complete-answer : (p : Past) → fieldsPass (baseline b) ≡ true → b .assessed ≡ true → answerAt b p (completeVisit b) ≡ CR
+  unfolding answerAt completeVisit
+  complete-answer p passes assessed = complete-overall (visitsOf p) passes assessed
+
+  complete-fits : fits b (completeVisit b) ≡ true
+  unfolding measuredBeyond fitsBy fits completeVisit
+  complete-fits =
+      rw (not-both (b .count) 0, not-both (b .count) 1, not-both (b .count) 2, not-both (b .count) 3, not-both (b .count) 4) (go (b .nontarget))
+    where
+      go : (n : Bool) → pick n (not (eqb (statusNumber (pick n S.CR S.NA)) 0)) (eqb (statusNumber (pick n S.CR S.NA)) 0) ≡ true
+      go true = refl
+      go false = refl
+
+  pub complete-passes : (d : ℕ) → fieldsPass (visit d (completeVisit b)) ≡ true
+  unfolding entryPasses outsideLimits notZero completeVisit
+  complete-passes d = simp (not-large, not-sized)
+
+  pub complete-lawful : (p : Past) (d : ℕ) → lawfulBehind b p ≡ true → died p ≡ false → latestDay p < d →
+      lawfulBehind b (visit d (completeVisit b) ∷ p) ≡ true
+  complete-lawful p d l alive h = rw (l, alive, lt-ltb (latestDay p) d h, complete-fits)

@@ -1,1 +1,0 @@
-// Fields packed into a number by their widths: the definitions are in specs/, their laws in proofs/.

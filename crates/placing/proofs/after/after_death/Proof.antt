@@ -1,9 +1,0 @@
--- `placing::after::after_death` meets its contract.
--- Assumes nothing.
-use borrow.Author.Needs.{needs}
-use Rattle.placing.specs.Added.{deathAdded}
-use Rattle.placing.proofs.after.after_death.Statement.{statement}
-use Rattle.placing.proofs.after.after_death.Tie as tie
-
-pub after-death-spec : {M : Type 1} → statement M
-after-death-spec = tie.close (tie.spec (λ c κs. search needs) (λ c. unfold deathAdded in c .later .ensures))

@@ -1,0 +1,18 @@
+-- What is opened is what is held after the baseline alone.
+-- Assumes nothing.
+use mathlib.Core.Path.{_≡_, refl}
+use mathlib.Core.Bool.{Bool}
+use mathlib.Core.List.{List, []}
+use Prim.Native.Nat.{ℕ}
+use Rattle.records.specs.declared.BaselineEntry.{BaselineEntry}
+use Rattle.outcome_rules.specs.StudyRecords.{Baseline}
+use Rattle.subject.specs.Summary.{eventOf, countedOf, summary}
+use Rattle.subject.specs.Opening.{firstSubject}
+
+abbrev pub baselineOf : BaselineEntry → List Bool → List ℕ → Baseline
+baselineOf b nodes sizes = record { assessed = b .assessed; nontarget = b .nontarget; count = b .count; nodes = nodes; sizes = sizes }
+
+pub opening-follows : (b : BaselineEntry) (nodes : List Bool) (sizes : List ℕ) →
+    firstSubject b nodes sizes ≡ summary (b .date) (baselineOf b nodes sizes) []
+unfolding firstSubject summary eventOf countedOf
+opening-follows b nodes sizes = refl

@@ -1,0 +1,16 @@
+-- `subject::visits::counted_after` meets its contract.
+-- Assumes nothing.
+use borrow.Author.Needs.{needs}
+use Rattle.subject.proofs.Returns.{counted-made}
+use Rattle.subject.proofs.visits.counted_after.Statement.{statement}
+use Rattle.subject.proofs.visits.counted_after.Tie as tie
+
+pub counted-after-spec : {M : Type 1} → statement M
+counted-after-spec =
+    tie.close
+    (tie.spec
+    (λ c κs. search needs)
+    (λ c κs. search needs)
+    (λ c κs. search needs)
+    (λ c κs. search needs)
+    (λ c. search counted-made))

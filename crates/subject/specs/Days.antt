@@ -1,0 +1,25 @@
+-- Document 01, "Outcome": study days as they are held, some of which may be absent.
+-- Assumes nothing.
+use Prim.Native.Nat.{ℕ}
+use mathlib.Core.Bool.{Bool, false}
+use Rattle.dates.specs.declared.StudyDay.{StudyDay}
+use Rattle.outcome_rules.specs.declared.MaybeDay.{MaybeDay}
+use Rattle.outcome_rules.specs.declared.MaybeDay.the-variants as M
+use Rattle.outcome_rules.specs.Values.{Day, none, on}
+use Rattle.outcome_rules.specs.Best.{farApart}
+
+abbrev pub at : ℕ → StudyDay
+at d = record { 0 = d }
+
+abbrev pub maybe : Day → MaybeDay
+maybe none = M.Absent
+maybe (on d) = M.On (at d)
+
+abbrev pub firstOf : MaybeDay → StudyDay → MaybeDay
+firstOf M.Absent d = M.On d
+firstOf (M.On e) d = M.On e
+
+-- 28 days or more after a day that is recorded
+abbrev pub farAfter : MaybeDay → ℕ → Bool
+farAfter M.Absent d = false
+farAfter (M.On e) d = farApart (e .0) d

@@ -1,0 +1,148 @@
+// What one visit more makes of the days of the event and of what the counting visits show.
+use super::CountingVisits;
+use super::EventDays;
+use super::days::far_after;
+use super::days::first_of;
+use dates::StudyDay;
+use outcome_rules::BestResponse;
+use outcome_rules::JudgedVisit;
+use outcome_rules::MaybeDay;
+use outcome_values::best_of;
+use outcome_values::is_recorded;
+use response_rules::Overall;
+ghost use mathlib.Core.Path.{_≡_};
+ghost use Rattle.outcome_rules.specs.Course.{judgedValues};
+ghost use Rattle.subject.specs.Visits.{evaluableOn, eventAfter, bestFrom, betterOf, shownBy, firstAfter, startAfter, countedAfter};
+
+// The day from which SD is a best response.
+const STABLE_FROM: u32 = 36;
+
+// A visit before the event that is evaluable.
+fn evaluable_on(visit: StudyDay) -> EventDays
+    ensures { λ r. ⌜ r ≡ evaluableOn visit ⌝ }
+{
+    EventDays {
+        progression: MaybeDay::Absent,
+        lastvisit: visit,
+        lastevaluable: MaybeDay::On(visit),
+    }
+}
+
+pub fn event_after(event: EventDays, visit: JudgedVisit) -> EventDays
+    ensures { λ r. ⌜ r ≡ eventAfter event (judgedValues visit) ⌝ }
+{
+    let progression = event.progression;
+    if is_recorded(progression) {
+        return event;
+    }
+    let day = visit.day;
+    let answer = visit.answer;
+    let previous = event.lastvisit;
+    let evaluable = event.lastevaluable;
+    match answer {
+        Overall::PD => EventDays {
+            progression: MaybeDay::On(day),
+            lastvisit: previous,
+            lastevaluable: evaluable,
+        },
+        Overall::NE => EventDays {
+            progression: MaybeDay::Absent,
+            lastvisit: day,
+            lastevaluable: evaluable,
+        },
+        Overall::CR => evaluable_on(day),
+        Overall::PR => evaluable_on(day),
+        Overall::SD => evaluable_on(day),
+    }
+}
+
+// The first of two in the order of document 01.
+fn better_of(a: BestResponse, b: BestResponse) -> BestResponse
+    ensures { λ r. ⌜ r ≡ betterOf a b ⌝ }
+{
+    match a {
+        BestResponse::CR => BestResponse::CR,
+        BestResponse::PR => match b {
+            BestResponse::CR => BestResponse::CR,
+            BestResponse::PR => BestResponse::PR,
+            BestResponse::SD => BestResponse::PR,
+            BestResponse::PD => BestResponse::PR,
+            BestResponse::NE => BestResponse::PR,
+        },
+        BestResponse::SD => match b {
+            BestResponse::CR => BestResponse::CR,
+            BestResponse::PR => BestResponse::PR,
+            BestResponse::SD => BestResponse::SD,
+            BestResponse::PD => BestResponse::SD,
+            BestResponse::NE => BestResponse::SD,
+        },
+        BestResponse::PD => match b {
+            BestResponse::CR => BestResponse::CR,
+            BestResponse::PR => BestResponse::PR,
+            BestResponse::SD => BestResponse::SD,
+            BestResponse::PD => BestResponse::PD,
+            BestResponse::NE => BestResponse::PD,
+        },
+        BestResponse::NE => b,
+    }
+}
+
+// What a counting visit shows with those before it.
+fn shown_by(c: CountingVisits, visit: JudgedVisit) -> BestResponse
+    ensures { λ r. ⌜ r ≡ bestFrom (shownBy c (judgedValues visit)) ⌝ }
+{
+    let day = visit.day;
+    let answer = visit.answer;
+    let first = c.firstresponse;
+    let start = c.crstart;
+    let late = STABLE_FROM <= day.0;
+    match answer {
+        Overall::CR => best_of(far_after(start, day), far_after(first, day), late, false),
+        Overall::PR => best_of(false, far_after(first, day), late, false),
+        Overall::SD => best_of(false, false, late, false),
+        Overall::PD => BestResponse::PD,
+        Overall::NE => BestResponse::NE,
+    }
+}
+
+fn first_after(first: MaybeDay, visit: JudgedVisit) -> MaybeDay
+    ensures { λ r. ⌜ r ≡ firstAfter first (judgedValues visit) ⌝ }
+{
+    let day = visit.day;
+    let answer = visit.answer;
+    match answer {
+        Overall::CR => first_of(first, day),
+        Overall::PR => first_of(first, day),
+        Overall::SD => first,
+        Overall::PD => first,
+        Overall::NE => first,
+    }
+}
+
+fn start_after(start: MaybeDay, visit: JudgedVisit) -> MaybeDay
+    ensures { λ r. ⌜ r ≡ startAfter start (judgedValues visit) ⌝ }
+{
+    let day = visit.day;
+    let answer = visit.answer;
+    match answer {
+        Overall::CR => first_of(start, day),
+        Overall::PR => MaybeDay::Absent,
+        Overall::SD => MaybeDay::Absent,
+        Overall::PD => MaybeDay::Absent,
+        Overall::NE => start,
+    }
+}
+
+pub fn counted_after(c: CountingVisits, visit: JudgedVisit) -> CountingVisits
+    ensures { λ r. ⌜ r ≡ countedAfter c (judgedValues visit) ⌝ }
+{
+    let first = c.firstresponse;
+    let start = c.crstart;
+    let best = c.best;
+    let shown = shown_by(c, visit);
+    CountingVisits {
+        firstresponse: first_after(first, visit),
+        crstart: start_after(start, visit),
+        best: better_of(best, shown),
+    }
+}
