@@ -1,5 +1,5 @@
-pub mod Follows
-pub mod Within
+pub mod HeldFollowsRecords
+pub mod AddingKeepsRange
 mod Returns
-mod Called
+mod AddingAnswers
 pub mod WorkedExamples

@@ -17,28 +17,28 @@ use Rattle.records.specs.declared.Entry.{Entry}
 use Rattle.records.specs.declared.Entry.the-variants as E
 use Rattle.records.specs.declared.BaselineEntry.{BaselineEntry}
 use Rattle.records.specs.declared.VisitEntry.{VisitEntry}
-use Rattle.records.specs.Form.{statusNumber}
+use Rattle.records.specs.Entries.{statusNumber}
 use Rattle.response_rules.specs.Words.{targetWord, statusWord, overallWord}
 use Rattle.response_rules.specs.Inputs.{visitOf}
 use Rattle.response_rules.specs.Change.{changeValues}
 use Rattle.response.specs.declared.VisitAnswer.{VisitAnswer}
 use Rattle.response.specs.Judging.{JudgesVisit}
 use Rattle.outcome_rules.specs.Values.{isRecorded, dayValue}
-use Rattle.outcome_rules.specs.Lawful.{measuredBeyond, fitsBy}
+use Rattle.outcome_rules.specs.LawfulLists.{measuredBeyond, fitsBy}
 use Rattle.outcome_rules.specs.Course.{Judged}
-use Rattle.outcome_rules.specs.Lines.{VisitLine}
+use Rattle.outcome_rules.specs.VisitLines.{VisitLine}
 use Rattle.subject.specs.declared.CountingVisits.{CountingVisits}
 use Rattle.subject.specs.declared.EventDays.{EventDays}
 use Rattle.subject.specs.declared.Enrolment.{Enrolment}
 use Rattle.subject.specs.declared.FollowUp.{FollowUp}
-use Rattle.subject.specs.Visits.{eventAfter, countedAfter}
+use Rattle.subject.specs.OneVisitMore.{eventAfter, countedAfter}
 use Rattle.adding.specs.declared.AddAnswer.{AddAnswer}
 use Rattle.adding.specs.declared.AddAnswer.the-variants as A
 use Rattle.adding.specs.declared.Dated.{Dated}
 use Rattle.adding.specs.declared.Step.{Step}
 use Rattle.adding.specs.declared.VisitResponse.{VisitResponse}
 use Rattle.adding.specs.Added.{answerOn, judgedAs, judgedAdded, visitAdded, therapyAdded, deathAdded}
-use Rattle.adding.specs.Lines.{responseValues, addResponses}
+use Rattle.adding.specs.Responses.{responseValues, addResponses}
 use Rattle.adding.specs.Refusals.{addNumber, refusalsBy, refusalsOn}
 use Rattle.adding.specs.Stepping.{StepsBy, firstRefusal, Steps, StepsLater}
 

@@ -7,15 +7,15 @@ use Rattle.dates.specs.Answers.{studyDayOf}
 use Rattle.records.specs.Refusals.{wrongSize, largeMeasured, setBeyond, sizedUnmeasured, withoutDisease, outsideLimits, notZero, refusalsOfRead}
 use Rattle.codec.specs.Bytes.{bytesNumber}
 use Rattle.codec.specs.Reading.{statusFrom, baselineIn, visitIn, spareIn, rawIn, refusalsOfNumber, refusalsOfBytes, recordOfBytes}
-use Rattle.response_rules.specs.Sums.{measuredSum, allMeasured}
-use Rattle.response_rules.specs.Targets.{allGone, grown, shrunk, targetAnswer}
+use Rattle.response_rules.specs.SumOfDiameters.{measuredSum, allMeasured}
+use Rattle.response_rules.specs.TargetAnswer.{allGone, grown, shrunk, targetAnswer}
 use Rattle.response_rules.specs.Nadir.{afterVisit}
-use Rattle.response_rules.specs.Overall.{overallBy}
-use Rattle.response_rules.specs.Visits.{overallAnswer}
+use Rattle.response_rules.specs.OverallAnswer.{overallBy}
+use Rattle.response_rules.specs.VisitAnswers.{overallAnswer}
 use Rattle.response_rules.specs.Change.{changeBetween, changeOf}
-use Rattle.outcome_rules.specs.Lawful.{measuredBeyond, fitsBy}
+use Rattle.outcome_rules.specs.LawfulLists.{measuredBeyond, fitsBy}
 use Rattle.subject.specs.Range.{enrolmentInRange, followUpInRange, inRange}
-use Rattle.subject.specs.Visits.{eventAfter, countedAfter}
+use Rattle.subject.specs.OneVisitMore.{eventAfter, countedAfter}
 use Rattle.adding.specs.Added.{answerOn, visitAdded, therapyAdded, deathAdded}
 use Rattle.adding.specs.Refusals.{refusalsOn}
 use Rattle.adding.specs.Promises.{refusalHeld, refusalFromBytes}

@@ -12,7 +12,7 @@ use Rattle.records.specs.declared.VisitEntry.{VisitEntry}
 use Rattle.response_rules.specs.Words.{Word, overallWord}
 use Rattle.response_rules.specs.Inputs.{visitOf}
 use Rattle.response_rules.specs.Nadir.{afterVisit}
-use Rattle.response_rules.specs.Visits.{overallAnswer}
+use Rattle.response_rules.specs.VisitAnswers.{overallAnswer}
 use Rattle.response_rules.specs.declared.Earlier.{Earlier}
 use Rattle.response.specs.declared.VisitAnswer.{VisitAnswer}
 use Rattle.outcome_rules.specs.declared.MaybeDay.{MaybeDay}
@@ -23,7 +23,7 @@ use Rattle.outcome_rules.specs.Course.{Judged}
 use Rattle.subject.specs.declared.Enrolment.{Enrolment}
 use Rattle.subject.specs.declared.FollowUp.{FollowUp}
 use Rattle.subject.specs.Days.{at}
-use Rattle.subject.specs.Visits.{eventAfter, countedAfter}
+use Rattle.subject.specs.OneVisitMore.{eventAfter, countedAfter}
 
 -- the study day of a date; 0, which is no study day, where it is before randomisation or either of them does not exist
 abbrev pub heldDay : Date → Date → StudyDay

@@ -21,8 +21,8 @@ use Rattle.outcome_rules.specs.declared.MaybeDay.the-variants as M
 use Rattle.outcome_rules.specs.AddingExamples.{printedBaseline, visited}
 use Rattle.subject.specs.declared.Subject.{Subject}
 use Rattle.subject.specs.declared.CountingVisits.{CountingVisits}
-use Rattle.subject.specs.Examples.{day, onDay, events, counts, noEvents, noCounts, disease, subjectWith, printedWith, printedOpened, printedVisited}
-use Rattle.adding.specs.Lines.{addResponses}
+use Rattle.subject.specs.HeldExamples.{day, onDay, events, counts, noEvents, noCounts, disease, subjectWith, printedWith, printedOpened, printedVisited}
+use Rattle.adding.specs.Responses.{addResponses}
 use Rattle.adding.specs.Refusals.{addNumber}
 use Rattle.adding.specs.Promises.{refusalsOnDay, linesOnDay, addedOnDay, responsesBy, subjectBy, refusalHeld, refusalFromBytes}
 use Rattle.adding.specs.declared.AddAnswer.{AddAnswer}

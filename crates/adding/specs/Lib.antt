@@ -1,5 +1,5 @@
 pub mod Added
-pub mod Lines
+pub mod Responses
 pub mod Refusals
 pub mod Promises
 pub mod Stepping

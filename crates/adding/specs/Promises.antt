@@ -10,15 +10,15 @@ use Rattle.laws.specs.Refusals.{Refusal, _when_, first}
 use Rattle.laws.specs.Layout.{AreBytes}
 use Rattle.dates.specs.declared.StudyDay.{StudyDay}
 use Rattle.records.specs.declared.Record.{Record}
-use Rattle.records.specs.Form.{dateOf}
+use Rattle.records.specs.Entries.{dateOf}
 use Rattle.records.specs.Refusals.{refusalsOf}
 use Rattle.codec.specs.Reading.{refusalsOfBytes, recordOfBytes}
-use Rattle.outcome_rules.specs.Lines.{VisitLine}
+use Rattle.outcome_rules.specs.VisitLines.{VisitLine}
 use Rattle.subject.specs.declared.Subject.{Subject}
 use Rattle.subject.specs.Range.{inRange}
 use Rattle.adding.specs.declared.AddAnswer.{AddAnswer}
 use Rattle.adding.specs.Added.{heldDay, entryAdded}
-use Rattle.adding.specs.Lines.{addResponses, linesOn}
+use Rattle.adding.specs.Responses.{addResponses, linesOn}
 use Rattle.adding.specs.Refusals.{addNumber, refusalsOn}
 
 -- the study day of a record, and on it 8 to 11, the responses and the subject after it

@@ -8,10 +8,10 @@ use Rattle.laws.specs.Refusals.{Refusal, _when_}
 use Rattle.dates.specs.declared.StudyDay.{StudyDay}
 use Rattle.records.specs.declared.Entry.{Entry}
 use Rattle.records.specs.declared.Entry.the-variants as E
-use Rattle.records.specs.Form.{kindNumber}
+use Rattle.records.specs.Entries.{kindNumber}
 use Rattle.records.specs.Refusals.{ownNumber}
 use Rattle.outcome_rules.specs.Values.{isRecorded, dayValue}
-use Rattle.outcome_rules.specs.Lawful.{fitsBy}
+use Rattle.outcome_rules.specs.LawfulLists.{fitsBy}
 use Rattle.subject.specs.declared.Enrolment.{Enrolment}
 use Rattle.subject.specs.declared.FollowUp.{FollowUp}
 use Rattle.adding.specs.declared.AddAnswer.{AddAnswer}

@@ -13,7 +13,7 @@ use Rattle.dates.specs.declared.StudyDay.{StudyDay}
 use Rattle.dates.specs.Calendar.{dateExists}
 use Rattle.records.specs.declared.Entry.{Entry}
 use Rattle.records.specs.declared.Record.{Record}
-use Rattle.records.specs.Form.{dateOf}
+use Rattle.records.specs.Entries.{dateOf}
 use Rattle.records.specs.Refusals.{refusalOf}
 use Rattle.codec.specs.Reading.{refusalOfBytes, recordOfBytes}
 use Rattle.subject.specs.declared.Enrolment.{Enrolment}
@@ -21,7 +21,7 @@ use Rattle.subject.specs.declared.FollowUp.{FollowUp}
 use Rattle.adding.specs.declared.Dated.{Dated}
 use Rattle.adding.specs.declared.Step.{Step}
 use Rattle.adding.specs.Added.{heldDay, entryAdded}
-use Rattle.adding.specs.Lines.{addResponses, linesOn}
+use Rattle.adding.specs.Responses.{addResponses, linesOn}
 use Rattle.adding.specs.Refusals.{addNumber, refusalsBy, refusalsOn}
 
 -- a record value on its study day, with the number of its own refusal

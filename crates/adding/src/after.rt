@@ -11,7 +11,7 @@ use subject::event_after;
 ghost use mathlib.Core.Path.{_≡_};
 ghost use Rattle.laws.specs.Choice.{pick};
 ghost use Rattle.outcome_rules.specs.Course.{judgedValues};
-ghost use Rattle.subject.specs.Visits.{countedAfter};
+ghost use Rattle.subject.specs.OneVisitMore.{countedAfter};
 ghost use Rattle.adding.specs.Added.{judgedAs, judgedAdded, later as laterOn, therapyAdded, deathAdded};
 
 fn counted_unless(closed: bool, c: CountingVisits, visit: JudgedVisit) -> CountingVisits

@@ -3,8 +3,8 @@ use records::Status;
 ghost use mathlib.Core.Path.{_≡_};
 ghost use mathlib.Core.List.{[], _∷_};
 ghost use lib.Dec.{eqb};
-ghost use Rattle.records.specs.Form.{statusNumber};
-ghost use Rattle.outcome_rules.specs.Lawful.{measuredBeyond, fitsBy};
+ghost use Rattle.records.specs.Entries.{statusNumber};
+ghost use Rattle.outcome_rules.specs.LawfulLists.{measuredBeyond, fitsBy};
 
 fn some_beyond(count: u8, a: bool, b: bool, c: bool, d: bool, e: bool) -> bool
     ensures { λ r. ⌜ r ≡ measuredBeyond count (a ∷ b ∷ c ∷ d ∷ e ∷ []) ⌝ }

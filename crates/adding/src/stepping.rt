@@ -20,7 +20,7 @@ ghost use mathlib.Core.Path.{_≡_};
 ghost use Rattle.response_rules.specs.Words.{targetWord, statusWord, overallWord};
 ghost use Rattle.response_rules.specs.Change.{changeValues};
 ghost use Rattle.records.specs.declared.Entry.the-variants as E;
-ghost use Rattle.adding.specs.Lines.{responseValues};
+ghost use Rattle.adding.specs.Responses.{responseValues};
 ghost use Rattle.adding.specs.Refusals.{addNumber};
 ghost use Rattle.adding.specs.Stepping.{StepsBy, Steps, StepsLater};
 

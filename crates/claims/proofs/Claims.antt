@@ -1,20 +1,20 @@
 -- Each claim, from where it is proved.
 -- Assumes nothing.
-use Rattle.laws.proofs.Refusals.{first-laws}
-use Rattle.dates.proofs.Calendar.{calendar-laws}
+use Rattle.laws.proofs.FirstRefusal.{first-laws}
+use Rattle.dates.proofs.CalendarLaws.{calendar-laws}
 use Rattle.writing.proofs.RoundTrip.{round-trips}
-use Rattle.response_rules.proofs.Examples.{grid-rows}
+use Rattle.response_rules.proofs.AtTheEdges.{grid-rows}
 use Rattle.response_rules.proofs.Laws.{overall-laws, nadir-laws, change-laws}
 use Rattle.outcome_rules.proofs.Laws.{list-laws, adding-laws, call-laws}
-use Rattle.outcome_rules.proofs.Exact.{every-mark-exact}
-use Rattle.outcome_rules.proofs.InOrder.{every-mark-exact-in-order}
+use Rattle.outcome_rules.proofs.MarksExact.{every-mark-exact}
+use Rattle.outcome_rules.proofs.MarksExactInOrder.{every-mark-exact-in-order}
 use Rattle.outcome_rules.proofs.AtTheEdges.{examples-hold}
-use Rattle.subject.proofs.Within.{range-laws}
-use Rattle.outcome.proofs.Demand.{demand3, held-after-calls}
-use Rattle.outcome.proofs.Within.{calls-in-range}
-use Rattle.file.proofs.Singly.{as-singly}
-use Rattle.listing_text.proofs.Examples.{lines-at-the-edges}
-use Rattle.listing_text.proofs.Lengths.{lengths}
+use Rattle.subject.proofs.RangeLaws.{range-laws}
+use Rattle.outcome.proofs.Demand3.{demand3, held-after-calls}
+use Rattle.outcome.proofs.CallsInRange.{calls-in-range}
+use Rattle.file.proofs.FileAsCalls.{as-singly}
+use Rattle.listing_text.proofs.AtTheEdges.{lines-at-the-edges}
+use Rattle.listing_text.proofs.ListingLength.{lengths}
 use Rattle.claims.specs.Claims.{Claims}
 
 pub claims : Claims

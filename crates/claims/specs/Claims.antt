@@ -7,13 +7,13 @@ use Rattle.writing.specs.Laws.{RoundTrips}
 use Rattle.response_rules.specs.Examples.{GridRows}
 use Rattle.response_rules.specs.Laws.{OverallLaws, NadirLaws, ChangeLaws}
 use Rattle.outcome_rules.specs.Laws.{ListLaws, AddingLaws, CallLaws}
-use Rattle.outcome_rules.specs.Lasting.{EveryMarkExact, EveryMarkExactInOrder}
-use Rattle.outcome_rules.specs.Examples.{starred, Hold}
+use Rattle.outcome_rules.specs.MarksExact.{EveryMarkExact, EveryMarkExactInOrder}
+use Rattle.outcome_rules.specs.StarredExamples.{starred, Hold}
 use Rattle.subject.specs.Laws.{RangeLaws}
 use Rattle.outcome.specs.Demand3.{Demand3}
 use Rattle.outcome.specs.HeldAfter.{HeldAfterCalls}
 use Rattle.outcome.specs.Laws.{CallsInRange}
-use Rattle.file.specs.Singly.{AsSingly}
+use Rattle.file.specs.FileAsCalls.{AsSingly}
 use Rattle.listing_text.specs.Examples.{LinesAtTheEdges}
 use Rattle.listing_text.specs.Laws.{Lengths}
 

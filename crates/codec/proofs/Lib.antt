@@ -1,8 +1,8 @@
 pub mod AtTheEdges
 pub mod AtTheEdgesOfParts
-pub mod Cut
-pub mod Window
+pub mod PartsJoined
+pub mod FieldOfThreeBytes
 pub mod Returns
-pub mod Found
-pub mod Fine
-pub mod VisitsFound
+pub mod FiveMarksAndSizes
+pub mod NoRefusalOfBytes
+pub mod VisitFieldsRead

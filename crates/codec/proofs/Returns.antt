@@ -14,7 +14,7 @@ use Rattle.records.specs.declared.OwnRefusal.{OwnRefusal}
 use Rattle.records.specs.declared.Record.{Record}
 use Rattle.records.specs.declared.CheckAnswer.{CheckAnswer}
 use Rattle.records.specs.declared.CheckAnswer.the-variants as C
-use Rattle.records.proofs.Passed.{own-not-0}
+use Rattle.records.proofs.NoOwnRefusal.{own-not-0}
 use Rattle.codec.specs.Bytes.{recordLength, bytesNumber}
 use Rattle.codec.specs.Fields.{fieldAt}
 use Rattle.codec.specs.Reading.{readNumber, isKind, rawIn, refusalsOfRaw, refusalsOfNumber, refusalsOfBytes, refusalOfBytes, blank, recordOfBytes, JudgesRead, Reads, visitFieldsIn, blankVisit, visitFieldsOf, ReadsVisit}

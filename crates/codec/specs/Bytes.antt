@@ -7,7 +7,7 @@ use lib.ListN.{getD}
 use Rattle.laws.specs.Choice.{pick}
 use Rattle.laws.specs.Layout.{pack, unpack, bytes}
 use Rattle.dates.specs.declared.Date.{Date}
-use Rattle.records.specs.Form.{dateOf, kindNumber, statusNumber}
+use Rattle.records.specs.Entries.{dateOf, kindNumber, statusNumber}
 use Rattle.records.specs.declared.Entry.{Entry}
 use Rattle.records.specs.declared.Entry.the-variants.{Baseline, Visit, Therapy, Death}
 use Rattle.records.specs.declared.Record.{Record}

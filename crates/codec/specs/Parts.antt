@@ -37,6 +37,6 @@ abbrev pub AllEleven : List (List ℕ) → Type 0
 AllEleven [] = Unit {0}
 AllEleven (part ∷ ps) = (length part ≡ recordLength) × AllEleven ps
 
--- where 13 does not meet a file, its parts have 11 bytes each and joined are the file; proved in proofs/Cut.antt
+-- where 13 does not meet a file, its parts have 11 bytes each and joined are the file; proved in proofs/PartsJoined.antt
 abbrev pub Cuts : Type 0
 Cuts = (s : List ℕ) → badLength (length s) ≡ false → (joined (partsOf s) ≡ s) × AllEleven (partsOf s)

@@ -1,3 +1,3 @@
 pub mod AtTheEdges
-pub mod Days
-pub mod Calendar
+pub mod ClosedForms
+pub mod CalendarLaws

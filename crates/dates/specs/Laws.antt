@@ -1,4 +1,4 @@
--- Document 01, "Dates and records": what a reader can expect of the calendar; proved in proofs/Calendar.antt.
+-- Document 01, "Dates and records": what a reader can expect of the calendar; proved in proofs/CalendarLaws.antt.
 -- Assumes nothing.
 use mathlib.Core.Path.{_≡_}
 use mathlib.Core.Bool.{Bool, true}

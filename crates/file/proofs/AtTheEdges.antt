@@ -4,19 +4,20 @@ use mathlib.Core.Path.{refl}
 use Rattle.dates.specs.Calendar.{leapYear, daysInMonth, dateExists, daysOfYears, daysOfMonths, dayNumber}
 use Rattle.dates.specs.Answers.{studyDayOf}
 use Rattle.codec.specs.Parts.{badLength}
-use Rattle.response_rules.specs.Sums.{measuredSum, baselineSum, allMeasured}
-use Rattle.response_rules.specs.Targets.{allGone, grown, shrunk, targetAnswer}
+use Rattle.response_rules.specs.SumOfDiameters.{measuredSum, baselineSum, allMeasured}
+use Rattle.response_rules.specs.TargetAnswer.{allGone, grown, shrunk, targetAnswer}
 use Rattle.response_rules.specs.Nadir.{afterVisit}
-use Rattle.response_rules.specs.Overall.{overallBy}
-use Rattle.response_rules.specs.Visits.{overallAnswer}
+use Rattle.response_rules.specs.OverallAnswer.{overallBy}
+use Rattle.response_rules.specs.VisitAnswers.{overallAnswer}
 use Rattle.outcome_rules.specs.Course.{answerAt}
 use Rattle.outcome_rules.specs.Pfs.{pfs}
-use Rattle.outcome_rules.specs.Best.{best, duration}
+use Rattle.outcome_rules.specs.BestResponse.{best}
+use Rattle.outcome_rules.specs.Duration.{duration}
 use Rattle.outcome_rules.specs.Settled.{pfsSettledBy, bestSettledBy, durationSettledBy}
 use Rattle.subject.specs.Range.{enrolmentInRange, followUpInRange, inRange}
 use Rattle.subject.specs.Opening.{blank}
-use Rattle.outcome.specs.Promises.{outcomeOf}
-use Rattle.file.specs.File.{startsLate, verdictOf}
+use Rattle.outcome.specs.ReadingOutcome.{outcomeOf}
+use Rattle.file.specs.Verdict.{startsLate, verdictOf}
 use Rattle.file.specs.Ending.{verdictHeld}
 use Rattle.file.specs.Examples.{EmptyFile, LateAtTheEdges, FirstOfCalls, ValuesOfCases}
 

@@ -1,8 +1,8 @@
 pub mod AtTheEdges
-pub mod Called
-pub mod Follows
+pub mod CallsHaveAnswers
+pub mod FileFollowsRecords
 mod Returns
-pub mod Singly
-pub mod Turns
-pub mod Verdicts
+pub mod FileAsCalls
+pub mod TurnsOfLoop
+pub mod VerdictsApart
 pub mod WorkedExamples

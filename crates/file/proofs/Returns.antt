@@ -18,10 +18,10 @@ use Rattle.subject.specs.Range.{inRange}
 use Rattle.outcome.specs.declared.OutcomeAnswer.{OutcomeAnswer}
 use Rattle.outcome.specs.declared.OutcomeAnswer.the-variants as R
 use Rattle.outcome.specs.declared.OutcomeResult.{OutcomeResult}
-use Rattle.outcome.specs.Promises.{Reading, refused, outcome, outcomeValues, pfsHeld, durationHeld, outcomeOf, readingOf, Told}
+use Rattle.outcome.specs.ReadingOutcome.{Reading, refused, outcome, outcomeValues, pfsHeld, durationHeld, outcomeOf, readingOf, Told}
 use Rattle.file.specs.declared.FileAnswer.{FileAnswer}
 use Rattle.file.specs.declared.FileAnswer.the-variants as F
-use Rattle.file.specs.File.{refused as stopped, accepted, isAfter, startsLate, fileValues}
+use Rattle.file.specs.Verdict.{refused as stopped, accepted, isAfter, startsLate, fileValues}
 use Rattle.file.specs.Ending.{verdictHeld, Ends}
 
 -- ---- 14

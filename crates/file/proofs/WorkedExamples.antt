@@ -8,18 +8,19 @@ use Rattle.records.specs.Refusals.{wrongSize, largeMeasured, setBeyond, sizedUn
 use Rattle.codec.specs.Bytes.{bytesNumber}
 use Rattle.codec.specs.Reading.{statusFrom, baselineIn, visitIn, spareIn, rawIn, refusalsOfNumber, refusalsOfBytes, recordOfBytes}
 use Rattle.codec.specs.Parts.{badLength}
-use Rattle.response_rules.specs.Sums.{measuredSum, baselineSum, allMeasured}
-use Rattle.response_rules.specs.Targets.{allGone, grown, shrunk, targetAnswer}
+use Rattle.response_rules.specs.SumOfDiameters.{measuredSum, baselineSum, allMeasured}
+use Rattle.response_rules.specs.TargetAnswer.{allGone, grown, shrunk, targetAnswer}
 use Rattle.response_rules.specs.Nadir.{afterVisit}
-use Rattle.response_rules.specs.Overall.{overallBy}
-use Rattle.response_rules.specs.Visits.{overallAnswer}
-use Rattle.outcome_rules.specs.Lawful.{measuredBeyond, fitsBy, fits}
+use Rattle.response_rules.specs.OverallAnswer.{overallBy}
+use Rattle.response_rules.specs.VisitAnswers.{overallAnswer}
+use Rattle.outcome_rules.specs.LawfulLists.{measuredBeyond, fitsBy, fits}
 use Rattle.outcome_rules.specs.Course.{answerAt}
 use Rattle.outcome_rules.specs.Pfs.{gapLimit, earlyDeath, pfs}
-use Rattle.outcome_rules.specs.Best.{best, duration}
+use Rattle.outcome_rules.specs.BestResponse.{best}
+use Rattle.outcome_rules.specs.Duration.{duration}
 use Rattle.outcome_rules.specs.Settled.{settledFrom, pfsSettledBy, bestSettledBy, durationSettledBy, pfsSettled, bestSettled, durationSettled}
 use Rattle.outcome_rules.specs.Adding.{refusalsBehind, refusalsOfOpening, refusalsOfAdding}
-use Rattle.file.specs.File.{startsLate, verdictOf}
+use Rattle.file.specs.Verdict.{startsLate, verdictOf}
 use Rattle.file.specs.Examples.{WholeFiles}
 
 pub whole-files : WholeFiles

@@ -8,9 +8,9 @@ use Rattle.laws.specs.Refusals.{_when_}
 use Rattle.outcome_rules.specs.Values.{dayValue}
 use Rattle.subject.specs.declared.Subject.{Subject}
 use Rattle.subject.specs.Range.{inRange}
-use Rattle.outcome.specs.Promises.{pfsHeld, durationHeld, outcomeOf}
+use Rattle.outcome.specs.ReadingOutcome.{pfsHeld, durationHeld, outcomeOf}
 use Rattle.file.specs.declared.FileAnswer.{FileAnswer}
-use Rattle.file.specs.File.{Verdict, accepted, unlessRefused, startsLate, fileValues}
+use Rattle.file.specs.Verdict.{Verdict, accepted, unlessRefused, startsLate, fileValues}
 
 -- behind the last record: 12, which no subject of a file meets, or 14, or the outcome
 unfoldable pub verdictHeld : Subject → ℕ → Verdict

@@ -19,12 +19,12 @@ use Rattle.response_rules.specs.Words.{PR, NE}
 use Rattle.outcome_rules.specs.Values.{on, EVENT, CENSORED, event, censored, noDuration, forDays, Outcome}
 use Rattle.outcome_rules.specs.declared.BestResponse.the-variants as B
 use Rattle.outcome_rules.specs.declared.MaybeDay.the-variants as M
-use Rattle.subject.specs.Examples.{onDay, events, counts}
+use Rattle.subject.specs.HeldExamples.{onDay, events, counts}
 use Rattle.subject.specs.Opening as O
 use Rattle.outcome.specs.Examples.{heldWith, result, values}
-use Rattle.file.specs.File.{refused, accepted, startsLate, verdictFrom, verdictOf, fileValues}
+use Rattle.file.specs.Verdict.{refused, accepted, startsLate, verdictFrom, verdictOf, fileValues}
 use Rattle.file.specs.Ending.{verdictHeld}
-use Rattle.file.specs.Singly.{never, at, numberOf, firstRefusal}
+use Rattle.file.specs.FileAsCalls.{never, at, numberOf, firstRefusal}
 use Rattle.file.specs.declared.FileAnswer.the-variants as F
 
 -- 13 length 0 (index 0)

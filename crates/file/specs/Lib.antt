@@ -1,4 +1,4 @@
-pub mod File
+pub mod Verdict
 pub mod Ending
-pub mod Singly
+pub mod FileAsCalls
 pub mod Examples

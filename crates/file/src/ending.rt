@@ -8,7 +8,7 @@ use outcome_rules::PfsResult;
 use subject::Subject;
 ghost use mathlib.Core.Path.{_≡_};
 ghost use Rattle.outcome_rules.specs.Values.{dayValue, pfsValues, durationValues};
-ghost use Rattle.file.specs.File.{isAfter, startsLate};
+ghost use Rattle.file.specs.Verdict.{isAfter, startsLate};
 ghost use Rattle.file.specs.Ending.{Ends};
 
 fn is_after(first: MaybeDay, pfs: PfsResult) -> bool

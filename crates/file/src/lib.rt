@@ -3,7 +3,7 @@
 use codec::RECORD_LENGTH;
 use outcome::OutcomeResult;
 ghost use mathlib.Core.Path.{_≡_};
-ghost use Rattle.file.specs.File.{fileValues, refused as stopped, Judges};
+ghost use Rattle.file.specs.Verdict.{fileValues, refused as stopped, Judges};
 
 mod ending; // ending.rt: behind the last record
 

@@ -7,7 +7,7 @@ use Rattle.records.specs.declared.Record.{Record}
 use Rattle.codec.specs.Reading.{recordOfBytes}
 use Rattle.outcome_rules.specs.Adding.{refusalOfOpening, Call, add, read, accepted}
 use Rattle.outcome.specs.declared.OutcomeAnswer.{OutcomeAnswer}
-use Rattle.outcome.specs.Promises.{refused, readingValues}
+use Rattle.outcome.specs.ReadingOutcome.{refused, readingValues}
 use Rattle.outcome.specs.Demand3.{Claim}
 use Rattle.codec.specs.Parts.{partsOf}
 

@@ -3,7 +3,7 @@
 // reading, or R and its number; behind F what judging the file answers; then its listing. The programs `examples` and `refusals` print by it.
 use file::FileAnswer;
 use outcome::OutcomeAnswer;
-ghost use Rattle.file.specs.File.{Judges};
+ghost use Rattle.file.specs.Verdict.{Judges};
 ghost use Rattle.history.specs.Replay.{recordsIn, Replayed};
 
 mod print; // print.rt: answers on standard output

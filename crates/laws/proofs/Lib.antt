@@ -1,9 +1,9 @@
 pub mod Tests
-pub mod Every
-pub mod Some
-pub mod Lists
-pub mod Cases
-pub mod Refusals
-pub mod Packing
-pub mod Append
-pub mod Leading
+pub mod EveryNumber
+pub mod SomeNumber
+pub mod ListsByElement
+pub mod SomeCase
+pub mod FirstRefusal
+pub mod PackUnpack
+pub mod LayoutsAppended
+pub mod FieldOfBytes

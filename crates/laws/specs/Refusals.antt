@@ -41,7 +41,7 @@ Each P (r ∷ rs) = P (r .number) × Each P rs
 abbrev pub Numbered : List Refusal → Type 0
 Numbered = Each (λ (n : ℕ). 1 ≤ n)
 
--- proved in proofs/Refusals.antt
+-- proved in proofs/FirstRefusal.antt
 pub record FirstLaws : Type 1 where
   -- none exactly when no condition holds
   pub none : (rs : List Refusal) → Numbered rs → (first rs ≡ 0) ↔ NoneMeets rs

@@ -1,6 +1,6 @@
-pub mod Writing
-pub mod Numerals
-pub mod Bounds
-pub mod Lines
-pub mod Loop
-pub mod Pages
+pub mod TextsWritten
+pub mod DigitsStored
+pub mod WritableCases
+pub mod ResponsesWritable
+pub mod TurnsOfLoop
+pub mod PageAfterListing

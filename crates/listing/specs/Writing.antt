@@ -9,12 +9,12 @@ use Rattle.codec.specs.Reading.{recordOfBytes}
 use Rattle.response_rules.specs.Words.{Word}
 use Rattle.outcome_rules.specs.Values.{Outcome}
 use Rattle.outcome_rules.specs.StudyRecords.{onStudyDays}
-use Rattle.outcome_rules.specs.Lines.{VisitLine, linesInOrder}
-use Rattle.outcome.specs.Promises.{outcome}
+use Rattle.outcome_rules.specs.VisitLines.{VisitLine, linesInOrder}
+use Rattle.outcome.specs.ReadingOutcome.{outcome}
 use Rattle.outcome.specs.Laws.{TellsWithin}
 use Rattle.file.specs.declared.FileAnswer.{FileAnswer}
 use Rattle.codec.specs.Parts.{partsOf}
-use Rattle.file.specs.File.{Verdict, refused, accepted, verdictOf, fileValues}
+use Rattle.file.specs.Verdict.{Verdict, refused, accepted, verdictOf, fileValues}
 use Rattle.listing_text.specs.Text.{firstLetter, secondLetter, linesText, listingOf, pageOf}
 
 -- a text was written into the page from a place on, which led to the place behind it; every other byte is as it was

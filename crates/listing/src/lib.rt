@@ -7,7 +7,7 @@ ghost use mathlib.Core.Path.{_≡_};
 ghost use Prim.Native.Nat.{_≤_};
 ghost use lib.ListN.{length, take, drop};
 ghost use mathlib.Core.List.{_++_};
-ghost use Rattle.file.specs.File.{fileValues, refused};
+ghost use Rattle.file.specs.Verdict.{fileValues, refused};
 ghost use Rattle.listing_text.specs.Text.{longestListing};
 ghost use Rattle.listing.specs.Writing.{JudgesInto, Lists};
 

@@ -19,9 +19,9 @@ ghost use lib.ListN.{length};
 ghost use mathlib.Core.List.{[], _∷_};
 ghost use Rattle.laws.specs.Choice.{pick};
 ghost use Rattle.outcome_rules.specs.Values.{pfsValues, bestWord, durationValues, wordOfStatus};
-ghost use Rattle.outcome.specs.Promises.{outcome as Promises·outcome, outcomeValues};
+ghost use Rattle.outcome.specs.ReadingOutcome.{outcome as Promises·outcome, outcomeValues};
 ghost use Rattle.outcome.specs.Laws.{DurationWithin, TellsWithin};
-ghost use Rattle.listing_text.specs.Numerals.{decimal};
+ghost use Rattle.listing_text.specs.Decimal.{decimal};
 ghost use Rattle.listing_text.specs.Text.{statusText, lineOfFields, pfsText, bestText, durationText, settledText, outcomeText, refusalText};
 ghost use Rattle.listing.specs.Writing.{Wrote};
 

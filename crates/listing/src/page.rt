@@ -3,7 +3,7 @@ ghost use mathlib.Core.Path.{_≡_};
 ghost use mathlib.Core.List.{[], _∷_};
 ghost use Prim.Native.Nat.{_+_, _≤_, _<_};
 ghost use lib.ListN.{length};
-ghost use Rattle.listing_text.specs.Numerals.{digit as Numerals·digit, decimal};
+ghost use Rattle.listing_text.specs.Decimal.{digit as Numerals·digit, decimal};
 ghost use Rattle.listing.specs.Writing.{Wrote};
 
 pub(crate) fn put_one(page: &mut [u8], at: usize, a: u8) -> usize

@@ -20,8 +20,8 @@ ghost use Prim.Native.Nat.{_+_, _≤_, _<_};
 ghost use lib.ListN.{length};
 ghost use Rattle.response_rules.specs.Words.{targetWord, statusWord, overallWord};
 ghost use Rattle.response_rules.specs.Change.{changeValues};
-ghost use Rattle.adding.specs.Lines.{responseValues, addResponses};
-ghost use Rattle.listing_text.specs.Numerals.{decimal};
+ghost use Rattle.adding.specs.Responses.{responseValues, addResponses};
+ghost use Rattle.listing_text.specs.Decimal.{decimal};
 ghost use Rattle.listing_text.specs.Text.{wordText, tenthsText, changeText, visitText, linesText};
 ghost use Rattle.listing.specs.Writing.{Wrote, AllWritable, Writable};
 

@@ -1,7 +1,7 @@
-pub mod Examples
-pub mod Numerals
-pub mod Texts
-pub mod Changes
-pub mod Lines
-pub mod Refused
-pub mod Lengths
+pub mod AtTheEdges
+pub mod DecimalDigits
+pub mod TextLengths
+pub mod ChangeLengths
+pub mod VisitLengths
+pub mod RefusalDigits
+pub mod ListingLength

@@ -1,5 +1,5 @@
 -- Document 01, "Change in size, file and listing": the lines and the listing of the printed example, and lines at the edges. Proved in
--- proofs/Examples.antt.
+-- proofs/AtTheEdges.antt.
 -- Assumes nothing.
 use mathlib.Core.Path.{_≡_}
 use mathlib.Core.Bool.{true, false}
@@ -8,10 +8,10 @@ use Rattle.response_rules.specs.Words.{CR, PR, SD, PD, NE, NA, NN}
 use Rattle.response_rules.specs.Change.{none, signed}
 use Rattle.outcome_rules.specs.Values.{CENSORED, censored, noDuration, forDays, Outcome}
 use Rattle.outcome_rules.specs.StudyRecords.{baseline}
-use Rattle.outcome_rules.specs.Lines.{VisitLine}
-use Rattle.outcome_rules.specs.Examples.{withNode}
+use Rattle.outcome_rules.specs.VisitLines.{VisitLine}
+use Rattle.outcome_rules.specs.StarredExamples.{withNode}
 use Rattle.outcome_rules.specs.FurtherExamples.{visit43, visit85, visit127}
-use Rattle.file.specs.File as F
+use Rattle.file.specs.Verdict as F
 use Rattle.file.specs.Examples.{printedFile, printedOutcome}
 use Rattle.listing_text.specs.Text.{changeText, visitText, bestText, durationText, settledText, outcomeText, refusalText, listingText, listingOf, pageOf}
 

@@ -7,9 +7,9 @@ use Prim.Native.Nat.{ℕ, _≤_, _<_, _^_}
 use lib.ListN.{length}
 use Rattle.response_rules.specs.Inputs.{Visit}
 use Rattle.outcome_rules.specs.StudyRecords.{Baseline, baseline, visit, fieldsPass}
-use Rattle.outcome_rules.specs.Lawful.{Past, lawfulBehind}
-use Rattle.outcome_rules.specs.Lines.{VisitLine, lineOf}
-use Rattle.listing_text.specs.Numerals.{decimal, told}
+use Rattle.outcome_rules.specs.LawfulLists.{Past, lawfulBehind}
+use Rattle.outcome_rules.specs.VisitLines.{VisitLine, lineOf}
+use Rattle.listing_text.specs.Decimal.{decimal, told}
 use Rattle.listing_text.specs.Text.{visitText, longestListing, listingOf}
 
 -- five digits are enough for the day and for the tenths of the change, and 24 bytes for the line

@@ -1,4 +1,4 @@
-pub mod Numerals
+pub mod Decimal
 pub mod Text
 pub mod Laws
 pub mod Examples

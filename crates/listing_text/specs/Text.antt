@@ -10,10 +10,10 @@ use Rattle.response_rules.specs.Words.{Word, CR, PR, SD, PD, NE, NA, NN}
 use Rattle.response_rules.specs.Change.{Tenths}
 use Rattle.outcome_rules.specs.Values.{PfsWord, EVENT, CENSORED, Pfs, Duration, noDuration, forDays, Outcome}
 use Rattle.outcome_rules.specs.StudyRecords.{StudyRecord, onStudyDays}
-use Rattle.outcome_rules.specs.Lines.{VisitLine, linesInOrder}
+use Rattle.outcome_rules.specs.VisitLines.{VisitLine, linesInOrder}
 use Rattle.codec.specs.Parts.{partsOf}
-use Rattle.file.specs.File.{Verdict, refused, accepted, verdictOf}
-use Rattle.listing_text.specs.Numerals.{digit, decimal}
+use Rattle.file.specs.Verdict.{Verdict, refused, accepted, verdictOf}
+use Rattle.listing_text.specs.Decimal.{digit, decimal}
 
 -- A 65, B 66, C 67, D 68, E 69, N 78, O 79, P 80, R 82, S 83, T 84, V 86; e 101, n 110, o 111
 abbrev pub firstLetter : Word → ℕ

@@ -1,7 +1,7 @@
-pub mod Follows
-pub mod Within
-pub mod Answers
-pub mod Runs
-pub mod Demand
+pub mod CallsFollowRecords
+pub mod CallsInRange
+pub mod AdditionsHaveAnswers
+pub mod CallsHaveAnswers
+pub mod Demand3
 mod Returns
 pub mod WorkedExamples

@@ -12,13 +12,14 @@ use Rattle.outcome_rules.specs.declared.DurationAnswer.{DurationAnswer}
 use Rattle.outcome_rules.specs.declared.DurationAnswer.the-variants as D
 use Rattle.outcome_rules.specs.Values.{isRecorded, dayValue, pfsValues, bestWord, durationValues}
 use Rattle.outcome_rules.specs.Pfs.{earlyDeath}
-use Rattle.outcome_rules.specs.Best.{isCR, durationOf}
+use Rattle.outcome_rules.specs.BestResponse.{isCR}
+use Rattle.outcome_rules.specs.Duration.{durationOf}
 use Rattle.outcome_rules.specs.Settled.{settledFrom, pfsSettledBy, bestSettledBy, durationSettledBy}
 use Rattle.subject.specs.declared.Subject.{Subject}
 use Rattle.subject.specs.Range.{enrolmentInRange, followUpInRange, inRange}
 use Rattle.outcome.specs.declared.OutcomeResult.{OutcomeResult}
 use Rattle.outcome.specs.declared.OutcomeAnswer.the-variants as R
-use Rattle.outcome.specs.Promises.{outcomeValues, pfsHeld, bestHeld, outcomeOf, readingOf, Told}
+use Rattle.outcome.specs.ReadingOutcome.{outcomeValues, pfsHeld, bestHeld, outcomeOf, readingOf, Told}
 
 -- ---- the marks
 

@@ -5,26 +5,27 @@ use mathlib.Core.Path.{refl}
 use Rattle.dates.specs.Calendar.{leapYear, daysInMonth, dateExists, daysOfYears, daysOfMonths, dayNumber}
 use Rattle.dates.specs.Answers.{studyDayOf}
 use Rattle.records.specs.Refusals.{wrongSize, largeMeasured, setBeyond, sizedUnmeasured, withoutDisease, outsideLimits, notZero, refusalsOfRead}
-use Rattle.response_rules.specs.Sums.{measuredSum, baselineSum, allMeasured}
-use Rattle.response_rules.specs.Targets.{allGone, grown, shrunk, targetAnswer}
+use Rattle.response_rules.specs.SumOfDiameters.{measuredSum, baselineSum, allMeasured}
+use Rattle.response_rules.specs.TargetAnswer.{allGone, grown, shrunk, targetAnswer}
 use Rattle.response_rules.specs.Nadir.{afterVisit}
-use Rattle.response_rules.specs.Overall.{overallBy}
-use Rattle.response_rules.specs.Visits.{overallAnswer}
+use Rattle.response_rules.specs.OverallAnswer.{overallBy}
+use Rattle.response_rules.specs.VisitAnswers.{overallAnswer}
 use Rattle.response_rules.specs.Change.{changeBetween, changeOf}
-use Rattle.outcome_rules.specs.Lines.{lineOf}
-use Rattle.outcome_rules.specs.Lawful.{measuredBeyond, fitsBy, fits}
+use Rattle.outcome_rules.specs.VisitLines.{lineOf}
+use Rattle.outcome_rules.specs.LawfulLists.{measuredBeyond, fitsBy, fits}
 use Rattle.outcome_rules.specs.Course.{answerAt}
 use Rattle.outcome_rules.specs.Pfs.{gapLimit, earlyDeath, pfs}
-use Rattle.outcome_rules.specs.Best.{best, duration}
+use Rattle.outcome_rules.specs.BestResponse.{best}
+use Rattle.outcome_rules.specs.Duration.{duration}
 use Rattle.outcome_rules.specs.Settled.{settledFrom, pfsSettledBy, bestSettledBy, durationSettledBy, pfsSettled, bestSettled, durationSettled}
 use Rattle.outcome_rules.specs.Adding.{refusalsBehind, refusalsOfAdding}
 use Rattle.subject.specs.Range.{enrolmentInRange, followUpInRange, inRange}
-use Rattle.subject.specs.Visits.{eventAfter, countedAfter}
+use Rattle.subject.specs.OneVisitMore.{eventAfter, countedAfter}
 use Rattle.subject.specs.Opening.{blank}
 use Rattle.adding.specs.Added.{answerOn, visitAdded}
 use Rattle.adding.specs.Refusals.{refusalsOn}
 use Rattle.adding.specs.Promises.{refusalHeld}
-use Rattle.outcome.specs.Promises.{outcomeOf, readingOf}
+use Rattle.outcome.specs.ReadingOutcome.{outcomeOf, readingOf}
 use Rattle.outcome.specs.Examples.{FirstRefusals, ReadAtTheEdges, RepliesAtTheEdges, ValuesOfCases}
 
 pub first-refusals : FirstRefusals

@@ -1,4 +1,4 @@
--- Document 01, "Settled", demand 3, and "Contracts" c: one claim about a whole list of calls on one subject. Proved in proofs/Demand.antt.
+-- Document 01, "Settled", demand 3, and "Contracts" c: one claim about a whole list of calls on one subject. Proved in proofs/Demand3.antt.
 -- Assumes nothing.
 use mathlib.Core.Path.{_≡_}
 use mathlib.Core.Bool.{true}
@@ -6,22 +6,22 @@ use mathlib.Core.List.{List, [], _∷_}
 use mathlib.Core.Logic.{_↔_}
 use Prim.Native.Nat.{ℕ}
 use Rattle.records.specs.declared.Record.{Record}
-use Rattle.records.specs.Form.{Five}
+use Rattle.records.specs.Entries.{Five}
 use Rattle.outcome_rules.specs.Values.{Outcome}
 use Rattle.outcome_rules.specs.StudyRecords.{Baseline, StudyRecord, onStudyDays, fromBaseline}
-use Rattle.outcome_rules.specs.Lawful.{lawful}
-use Rattle.outcome_rules.specs.Lasting.{outcomeInOrder, LastsInOrder}
-use Rattle.outcome_rules.specs.Lines.{VisitLine}
+use Rattle.outcome_rules.specs.LawfulLists.{lawful}
+use Rattle.outcome_rules.specs.MarksExact.{outcomeInOrder, LastsInOrder}
+use Rattle.outcome_rules.specs.VisitLines.{VisitLine}
 use Rattle.outcome_rules.specs.Adding.{refusalOfAdding, responsesOfAdding, Call, add, read, acceptedAfter, accepted}
 use Rattle.subject.specs.declared.Subject.{Subject}
 use Rattle.subject.specs.Opening.{openNumber, Opened}
 use Rattle.adding.specs.declared.AddAnswer.{AddAnswer}
-use Rattle.adding.specs.Lines.{addResponses}
+use Rattle.adding.specs.Responses.{addResponses}
 use Rattle.adding.specs.Refusals.{addNumber}
 use Rattle.adding.specs.Promises.{Added}
 use Rattle.subject.specs.declared.OpenAnswer.{OpenAnswer}
 use Rattle.outcome.specs.declared.OutcomeAnswer.{OutcomeAnswer}
-use Rattle.outcome.specs.Promises.{Reading, refused, outcome, readingValues, Told}
+use Rattle.outcome.specs.ReadingOutcome.{Reading, refused, outcome, readingValues, Told}
 
 -- what a call replies, in the paper's numbers and values: an addition 0 where it is done or the refusal's number, with the responses at a visit that was
 -- added and none otherwise; a reading the outcome or a refusal

@@ -22,11 +22,11 @@ use Rattle.outcome_rules.specs.AddingExamples.{printedBaseline, visited}
 use Rattle.subject.specs.declared.EventDays.{EventDays}
 use Rattle.subject.specs.declared.CountingVisits.{CountingVisits}
 use Rattle.subject.specs.declared.Subject.{Subject}
-use Rattle.subject.specs.Examples.{day, onDay, events, counts, noEvents, noCounts, disease, subjectWith, printedOpened, printedVisited}
+use Rattle.subject.specs.HeldExamples.{day, onDay, events, counts, noEvents, noCounts, disease, subjectWith, printedOpened, printedVisited}
 use Rattle.subject.specs.Opening.{blank}
 use Rattle.adding.specs.Promises.{subjectBy, refusalHeld}
 use Rattle.adding.specs.Examples.{treated, died}
-use Rattle.outcome.specs.Promises.{Reading, refused, outcome, readingValues, readingOf}
+use Rattle.outcome.specs.ReadingOutcome.{Reading, refused, outcome, readingValues, readingOf}
 use Rattle.outcome.specs.Demand3.{added, told, replies}
 use Rattle.outcome.specs.declared.OutcomeAnswer.the-variants as A
 use Rattle.outcome.specs.declared.OutcomeResult.{OutcomeResult}

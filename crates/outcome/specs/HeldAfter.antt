@@ -1,9 +1,9 @@
--- Document 01, "Settled": what is held after any list of calls; each field is told by `summary` (held/specs/Summary). Proved in proofs/Demand.antt.
+-- Document 01, "Settled": what is held after any list of calls; each field is told by `summary` (held/specs/Summary). Proved in proofs/Demand3.antt.
 -- Assumes nothing.
 use mathlib.Core.Path.{_≡_}
 use mathlib.Core.List.{List, [], _∷_, reverse}
 use Rattle.records.specs.declared.Record.{Record}
-use Rattle.records.specs.Form.{dateOf}
+use Rattle.records.specs.Entries.{dateOf}
 use Rattle.outcome_rules.specs.StudyRecords.{Baseline, StudyRecord, onStudyDays, fromBaseline}
 use Rattle.outcome_rules.specs.Adding.{Call, accepted}
 use Rattle.subject.specs.declared.Subject.{Subject}

@@ -1,4 +1,4 @@
--- Document 01, "Where a call stops" and "Contracts" a: refusals and ranges, for every record value and every subject. Proved in proofs/Within.antt.
+-- Document 01, "Where a call stops" and "Contracts" a: refusals and ranges, for every record value and every subject. Proved in proofs/CallsInRange.antt.
 -- Assumes nothing.
 use mathlib.Core.Path.{_≡_}
 use mathlib.Core.Bool.{true, false}
@@ -13,11 +13,11 @@ use Rattle.subject.specs.Opening.{blank, openNumber, Opened}
 use Rattle.subject.specs.Laws.{Within}
 use Rattle.adding.specs.declared.AddAnswer.{AddAnswer}
 use Rattle.adding.specs.Refusals.{addNumber}
-use Rattle.adding.specs.Lines.{addResponses}
+use Rattle.adding.specs.Responses.{addResponses}
 use Rattle.adding.specs.Promises.{Added, AddedBytes}
 use Rattle.subject.specs.declared.OpenAnswer.{OpenAnswer}
 use Rattle.outcome.specs.declared.OutcomeAnswer.{OutcomeAnswer}
-use Rattle.outcome.specs.Promises.{Reading, refused, outcome, readingValues, Told}
+use Rattle.outcome.specs.ReadingOutcome.{Reading, refused, outcome, readingValues, Told}
 
 abbrev pub DurationWithin : Duration → Type 0
 DurationWithin noDuration = Unit {0}

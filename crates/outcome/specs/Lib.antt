@@ -1,4 +1,4 @@
-pub mod Promises
+pub mod ReadingOutcome
 pub mod Demand3
 pub mod HeldAfter
 pub mod Laws

@@ -10,7 +10,7 @@ use outcome_values::is_recorded;
 use outcome_values::pfs_of;
 use subject::Subject;
 ghost use mathlib.Core.Path.{_≡_};
-ghost use Rattle.outcome.specs.Promises.{outcomeValues, outcomeOf, Told};
+ghost use Rattle.outcome.specs.ReadingOutcome.{outcomeValues, outcomeOf, Told};
 
 fn outcome_of(s: Subject) -> OutcomeResult
     ensures { λ o. ⌜ outcomeValues o ≡ outcomeOf s ⌝ }

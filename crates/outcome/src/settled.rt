@@ -5,7 +5,7 @@ use outcome_rules::DurationAnswer;
 use outcome_values::EARLY_DEATH;
 ghost use mathlib.Core.Path.{_≡_};
 ghost use Rattle.outcome_rules.specs.Values.{bestWord, durationValues};
-ghost use Rattle.outcome_rules.specs.Best.{isCR};
+ghost use Rattle.outcome_rules.specs.BestResponse.{isCR};
 ghost use Rattle.outcome_rules.specs.Settled.{pfsSettledBy, bestSettledBy, durationSettledBy};
 
 // From this day on no death is an early one.

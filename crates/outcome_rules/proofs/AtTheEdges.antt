@@ -4,21 +4,22 @@ use mathlib.Core.Path.{refl}
 use Rattle.dates.specs.Calendar.{leapYear, daysInMonth, dateExists, daysOfYears, daysOfMonths, dayNumber}
 use Rattle.dates.specs.Answers.{studyDayOf}
 use Rattle.records.specs.Refusals.{wrongSize, largeMeasured, setBeyond, sizedUnmeasured, withoutDisease, outsideLimits, notZero, refusalsOfRead}
-use Rattle.response_rules.specs.Sums.{measuredSum, baselineSum, allMeasured}
-use Rattle.response_rules.specs.Targets.{allGone, grown, shrunk, targetAnswer}
+use Rattle.response_rules.specs.SumOfDiameters.{measuredSum, baselineSum, allMeasured}
+use Rattle.response_rules.specs.TargetAnswer.{allGone, grown, shrunk, targetAnswer}
 use Rattle.response_rules.specs.Nadir.{afterVisit}
-use Rattle.response_rules.specs.Overall.{overallBy}
-use Rattle.response_rules.specs.Visits.{overallAnswer}
+use Rattle.response_rules.specs.OverallAnswer.{overallBy}
+use Rattle.response_rules.specs.VisitAnswers.{overallAnswer}
 use Rattle.response_rules.specs.Change.{changeBetween, changeOf}
 use Rattle.outcome_rules.specs.StudyRecords.{entryPasses}
-use Rattle.outcome_rules.specs.Lawful.{measuredBeyond, fitsBy, fits}
+use Rattle.outcome_rules.specs.LawfulLists.{measuredBeyond, fitsBy, fits}
 use Rattle.outcome_rules.specs.Course.{answerAt}
 use Rattle.outcome_rules.specs.Pfs.{gapLimit, earlyDeath, pfs}
-use Rattle.outcome_rules.specs.Best.{best, duration}
-use Rattle.outcome_rules.specs.Lines.{lineOf}
+use Rattle.outcome_rules.specs.BestResponse.{best}
+use Rattle.outcome_rules.specs.Duration.{duration}
+use Rattle.outcome_rules.specs.VisitLines.{lineOf}
 use Rattle.outcome_rules.specs.Settled.{settledFrom, pfsSettledBy, bestSettledBy, durationSettledBy, pfsSettled, bestSettled, durationSettled}
 use Rattle.outcome_rules.specs.Adding.{refusalsBehind, refusalsOfOpening, refusalsOfAdding}
-use Rattle.outcome_rules.specs.Examples.{starred, Hold}
+use Rattle.outcome_rules.specs.StarredExamples.{starred, Hold}
 use Rattle.outcome_rules.specs.FurtherExamples.{WordsOfCases, CoursesOfRecords, further, PrintedLines, FieldsThatPass}
 use Rattle.outcome_rules.specs.AddingExamples.{Unlawful, FittingStatuses, OnStudyDays, FirstRefusals, RepliedOfVisits}
 

@@ -10,19 +10,19 @@ use borrow.Author.Tests.{le-leb, lt-leb, lt-ltb, ltb-true, ltb-false, not-true}
 use Rattle.laws.specs.Choice.{both, either, pick}
 use Rattle.laws.proofs.Tests.{never, both-true, either-false, either-with-true}
 use Rattle.records.specs.declared.Status.the-variants as S
-use Rattle.records.specs.Form.{statusNumber}
+use Rattle.records.specs.Entries.{statusNumber}
 use Rattle.records.specs.declared.BaselineEntry.{BaselineEntry}
 use Rattle.records.specs.declared.Entry.{Entry}
 use Rattle.records.specs.declared.Entry.the-variants as E
 use Rattle.records.specs.Refusals.{mostTargets, wrongSize, largeMeasured, sizedUnmeasured, someTarget, withoutDisease, outsideLimits, notZero}
 use Rattle.response_rules.specs.Words.{CR, NA, statusWord}
 use Rattle.response_rules.specs.Inputs.{Visit}
-use Rattle.response_rules.specs.Sums.{allMeasured}
-use Rattle.response_rules.specs.Targets.{gone, allGone, targetAnswer}
-use Rattle.response_rules.specs.Overall.{overallBy}
-use Rattle.response_rules.specs.Visits.{overallAnswer, visitTarget, visitOverall}
+use Rattle.response_rules.specs.SumOfDiameters.{allMeasured}
+use Rattle.response_rules.specs.TargetAnswer.{gone, allGone, targetAnswer}
+use Rattle.response_rules.specs.OverallAnswer.{overallBy}
+use Rattle.response_rules.specs.VisitAnswers.{overallAnswer, visitTarget, visitOverall}
 use Rattle.outcome_rules.specs.StudyRecords.{Baseline, baseline, visit, disease, entryPasses, entryOfBaseline, fieldsPass}
-use Rattle.outcome_rules.specs.Lawful.{Past, latestDay, died, measuredBeyond, fitsBy, fits, lawfulBehind}
+use Rattle.outcome_rules.specs.LawfulLists.{Past, latestDay, died, measuredBeyond, fitsBy, fits, lawfulBehind}
 use Rattle.outcome_rules.specs.Course.{visitsOf, answerAt}
 
 -- every target measured with size 0, non-target disease CR where there was some

@@ -9,11 +9,11 @@ use Rattle.laws.specs.Choice.{pick}
 use Rattle.laws.specs.Refusals.{Refusal, _when_, first}
 use Rattle.records.specs.declared.Entry.{Entry}
 use Rattle.records.specs.declared.Record.{Record}
-use Rattle.records.specs.Form.{dateOf, kindNumber}
+use Rattle.records.specs.Entries.{dateOf, kindNumber}
 use Rattle.records.specs.Refusals.{refusalsOf}
 use Rattle.outcome_rules.specs.StudyRecords.{Baseline, StudyRecord, baseline, visit, therapy, death, onStudyDay, onStudyDays, fromBaseline}
-use Rattle.outcome_rules.specs.Lawful.{Past, latestDay, died, fits}
-use Rattle.outcome_rules.specs.Lines.{VisitLine, linesOf}
+use Rattle.outcome_rules.specs.LawfulLists.{Past, latestDay, died, fits}
+use Rattle.outcome_rules.specs.VisitLines.{VisitLine, linesOf}
 
 abbrev pub isBaseline : StudyRecord → Bool
 isBaseline (baseline b) = true

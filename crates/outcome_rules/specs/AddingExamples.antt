@@ -13,9 +13,9 @@ use Rattle.records.specs.Examples.{fivePlaces, baselineDated, visitDated, thera
 use Rattle.response_rules.specs.Words.{CR, PR, PD, NN}
 use Rattle.response_rules.specs.Change.{signed}
 use Rattle.outcome_rules.specs.StudyRecords.{Baseline, StudyRecord, baseline, visit, therapy, death, onStudyDays}
-use Rattle.outcome_rules.specs.Lawful.{lawful}
-use Rattle.outcome_rules.specs.Lines.{VisitLine}
-use Rattle.outcome_rules.specs.Examples.{withTargets, oneTarget, withNode, visitOn, measuring}
+use Rattle.outcome_rules.specs.LawfulLists.{lawful}
+use Rattle.outcome_rules.specs.VisitLines.{VisitLine}
+use Rattle.outcome_rules.specs.StarredExamples.{withTargets, oneTarget, withNode, visitOn, measuring}
 use Rattle.outcome_rules.specs.Adding.{refusalOfOpening, refusalOfAdding, responsesOfAdding, add, read, accepted}
 
 abbrev pub behindOneTarget : List StudyRecord → Bool

@@ -6,13 +6,13 @@ use mathlib.Core.Bool.{Bool, true, false}
 use mathlib.Core.List.{List, [], _∷_}
 use Rattle.laws.specs.Choice.{either, pick}
 use Rattle.response_rules.specs.Words.{Word, overallWord}
-use Rattle.response_rules.specs.Overall.{isPD}
+use Rattle.response_rules.specs.OverallAnswer.{isPD}
 use Rattle.response_rules.specs.Inputs.{Visit}
-use Rattle.response_rules.specs.Visits.{visitOverall}
+use Rattle.response_rules.specs.VisitAnswers.{visitOverall}
 use Rattle.outcome_rules.specs.declared.JudgedVisit.{JudgedVisit}
 use Rattle.outcome_rules.specs.Values.{Day, none, on, isRecorded, _orElse_}
 use Rattle.outcome_rules.specs.StudyRecords.{Baseline, baseline, visit, therapy, death, disease}
-use Rattle.outcome_rules.specs.Lawful.{Past}
+use Rattle.outcome_rules.specs.LawfulLists.{Past}
 
 abbrev pub visitsOf : Past → List Visit
 visitsOf [] = []

@@ -12,10 +12,10 @@ use Rattle.response_rules.specs.declared.Overall.the-variants as O
 use Rattle.response_rules.specs.Change.{signed}
 use Rattle.outcome_rules.specs.Values.{none, on, EVENT, CENSORED, event, censored, noDuration, forDays, dayValue, wordOfStatus, pfsValues, bestWord, durationValues}
 use Rattle.outcome_rules.specs.StudyRecords.{Baseline, StudyRecord, baseline, visit, therapy, death, dayOf, fieldsPass, allPass}
-use Rattle.outcome_rules.specs.Lawful.{Past, latestDay}
+use Rattle.outcome_rules.specs.LawfulLists.{Past, latestDay}
 use Rattle.outcome_rules.specs.Course.{Judged, judgedValues, visited, therapyOn, deathOn, Course, course, latestIn, treated}
-use Rattle.outcome_rules.specs.Lines.{linesInOrder}
-use Rattle.outcome_rules.specs.Examples.{withTargets, oneTarget, withNode, noTargets, missing, visitOn, measuring, unmeasured, Said, is, pfsIs, bestIs, durationIs, pfsOfList, bestOfList, durationOfList, pfsSettledOfList, bestSettledOfList, durationSettledOfList, Example, example}
+use Rattle.outcome_rules.specs.VisitLines.{linesInOrder}
+use Rattle.outcome_rules.specs.StarredExamples.{withTargets, oneTarget, withNode, noTargets, missing, visitOn, measuring, unmeasured, Said, is, pfsIs, bestIs, durationIs, pfsOfList, bestOfList, durationOfList, pfsSettledOfList, bestSettledOfList, durationSettledOfList, Example, example}
 use Rattle.outcome_rules.specs.declared.MaybeDay.the-variants as M
 use Rattle.outcome_rules.specs.declared.PfsStatus.the-variants as E
 use Rattle.outcome_rules.specs.declared.BestResponse.the-variants as B

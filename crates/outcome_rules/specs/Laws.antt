@@ -9,14 +9,15 @@ use Rattle.laws.specs.Refusals.{first}
 use Rattle.dates.specs.declared.Date.{Date}
 use Rattle.dates.specs.Calendar.{dayNumber}
 use Rattle.records.specs.declared.Record.{Record}
-use Rattle.records.specs.Form.{dateOf, Five}
+use Rattle.records.specs.Entries.{dateOf, Five}
 use Rattle.records.specs.Refusals.{refusalOf}
 use Rattle.outcome_rules.specs.Values.{exists}
 use Rattle.outcome_rules.specs.StudyRecords.{Baseline, StudyRecord, dayOf, fieldsPass, onStudyDay, onStudyDays}
-use Rattle.outcome_rules.specs.Lawful.{Past, latestDay, deathDay, lawfulBehind, lawful}
+use Rattle.outcome_rules.specs.LawfulLists.{Past, latestDay, deathDay, lawfulBehind, lawful}
 use Rattle.outcome_rules.specs.Course.{Course, course, latestIn, deathIn}
-use Rattle.outcome_rules.specs.Best.{isResponse, best, duration}
-use Rattle.outcome_rules.specs.Lasting.{MarksExactOn}
+use Rattle.outcome_rules.specs.BestResponse.{isResponse, best}
+use Rattle.outcome_rules.specs.Duration.{duration}
+use Rattle.outcome_rules.specs.MarksExact.{MarksExactOn}
 use Rattle.outcome_rules.specs.Adding.{isBaseline, tooEarly, refusalsBehind, refusalOfOpening, refusalOfAdding, Call, accepted}
 
 pub record ListLaws : Type 0 where

@@ -5,7 +5,7 @@ use mathlib.Core.Bool.{Bool}
 use mathlib.Core.List.{List, [], _∷_}
 use lib.Dec.{leb, ltb}
 use Rattle.laws.specs.Choice.{pick}
-use Rattle.response_rules.specs.Overall.{evaluable}
+use Rattle.response_rules.specs.OverallAnswer.{evaluable}
 use Rattle.outcome_rules.specs.Values.{Day, none, on, isRecorded, orDay1, Pfs, event, censored}
 use Rattle.outcome_rules.specs.Course.{Judged, Course, deathIn, visitsIn, firstPD, progression}
 

@@ -7,10 +7,11 @@ use Rattle.laws.specs.Choice.{either, pick}
 use Rattle.response_rules.specs.Words.{Word}
 use Rattle.outcome_rules.specs.Values.{isRecorded, Duration, exists, Outcome}
 use Rattle.outcome_rules.specs.StudyRecords.{Baseline}
-use Rattle.outcome_rules.specs.Lawful.{Past}
+use Rattle.outcome_rules.specs.LawfulLists.{Past}
 use Rattle.outcome_rules.specs.Course.{Course, course, latestIn, deathIn, treated, progression}
 use Rattle.outcome_rules.specs.Pfs.{earlyDeath, pfs}
-use Rattle.outcome_rules.specs.Best.{isCR, best, duration}
+use Rattle.outcome_rules.specs.BestResponse.{isCR, best}
+use Rattle.outcome_rules.specs.Duration.{duration}
 
 -- 93: from this day on no death is an early one
 unfoldable pub settledFrom : ℕ

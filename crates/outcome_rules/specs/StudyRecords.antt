@@ -15,7 +15,7 @@ use Rattle.records.specs.declared.VisitEntry.{VisitEntry}
 use Rattle.records.specs.declared.Entry.{Entry}
 use Rattle.records.specs.declared.Entry.the-variants as E
 use Rattle.records.specs.declared.Record.{Record}
-use Rattle.records.specs.Form.{dateOf}
+use Rattle.records.specs.Entries.{dateOf}
 use Rattle.records.specs.Refusals.{mostTargets, outsideLimits, notZero}
 use Rattle.response_rules.specs.declared.BaselineDisease.{BaselineDisease}
 use Rattle.response_rules.specs.Inputs.{Visit, visitOf, diseaseOf}

@@ -7,7 +7,8 @@ use outcome_rules::MaybeDay;
 use outcome_rules::PfsResult;
 ghost use mathlib.Core.Path.{_≡_};
 ghost use Rattle.outcome_rules.specs.Values.{dayValue, pfsValues, bestWord, durationValues};
-ghost use Rattle.outcome_rules.specs.Best.{isResponse, bestOf, durationOf};
+ghost use Rattle.outcome_rules.specs.BestResponse.{isResponse, bestOf};
+ghost use Rattle.outcome_rules.specs.Duration.{durationOf};
 
 // From what the counting visits show: a confirmed CR, a confirmed CR or PR, a CR, PR or SD late enough, a progression.
 pub fn best_of(cr: bool, pr: bool, sd: bool, pd: bool) -> BestResponse

@@ -1,3 +1,3 @@
 pub mod AtTheEdges
 pub mod Returns
-pub mod Passed
+pub mod NoOwnRefusal

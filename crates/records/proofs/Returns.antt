@@ -8,7 +8,7 @@ use Rattle.laws.specs.Choice.{either}
 use Rattle.laws.specs.Refusals.{_when_, first}
 use Rattle.dates.specs.Calendar.{dateExists}
 use Rattle.dates.specs.declared.Date.{Date}
-use Rattle.records.specs.Form.{dateOf}
+use Rattle.records.specs.Entries.{dateOf}
 use Rattle.records.specs.Refusals.{checkNumber, largeMeasured, sizedUnmeasured, someTarget, outsideLimits, notZero, ChecksVisit, refusalsOfRead}
 use Rattle.records.specs.declared.Entry.{Entry}
 use Rattle.records.specs.declared.Entry.the-variants.{Visit}

@@ -7,7 +7,7 @@ use mathlib.Core.List.{List, [], _∷_, map}
 use Prim.Native.Nat.{ℕ, zero, suc}
 use Rattle.dates.specs.Laws.{ymd}
 use Rattle.dates.specs.declared.Date.{Date}
-use Rattle.records.specs.Form.{dateOf, kindNumber, statusNumber}
+use Rattle.records.specs.Entries.{dateOf, kindNumber, statusNumber}
 use Rattle.laws.specs.Refusals.{first}
 use Rattle.records.specs.Refusals.{ownNumber, checkNumber, refusalsOfRead, refusalOf}
 use Rattle.records.specs.declared.CheckAnswer.the-variants as C

@@ -1,3 +1,3 @@
-pub mod Form
+pub mod Entries
 pub mod Refusals
 pub mod Examples

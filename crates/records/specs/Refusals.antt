@@ -9,7 +9,7 @@ use lib.ListN.{getD}
 use Rattle.laws.specs.Choice.{both, either, pick, some}
 use Rattle.laws.specs.Refusals.{Refusal, _when_, first}
 use Rattle.dates.specs.Calendar.{dateExists}
-use Rattle.records.specs.Form.{dateOf}
+use Rattle.records.specs.Entries.{dateOf}
 use Rattle.records.specs.declared.Entry.{Entry}
 use Rattle.records.specs.declared.Entry.the-variants.{Baseline, Visit, Therapy, Death}
 use Rattle.records.specs.declared.BaselineEntry.{BaselineEntry}

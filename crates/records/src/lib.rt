@@ -5,7 +5,7 @@ ghost use mathlib.Core.Bool.{false};
 ghost use mathlib.Core.List.{[], _∷_};
 ghost use Rattle.laws.specs.Choice.{either};
 ghost use Rattle.laws.specs.Refusals.{_when_, first};
-ghost use Rattle.records.specs.Form.{dateOf};
+ghost use Rattle.records.specs.Entries.{dateOf};
 ghost use Rattle.records.specs.Refusals.{ownNumber, checkNumber, withoutDisease, outsideLimits, notZero, ChecksVisit, refusalsOfRead, refusalOf};
 ghost use Rattle.records.specs.declared.Entry.the-variants.{Baseline};
 

@@ -1,12 +1,12 @@
 -- The examples are computed by the definitions. By its name this file is checked first, so that a wrong definition is refused at an example.
 -- Assumes nothing.
 use mathlib.Core.Path.{refl}
-use Rattle.response_rules.specs.Sums.{measuredSum, baselineSum, allMeasured}
-use Rattle.response_rules.specs.Targets.{allGone, grown, shrunk, targetAnswer}
+use Rattle.response_rules.specs.SumOfDiameters.{measuredSum, baselineSum, allMeasured}
+use Rattle.response_rules.specs.TargetAnswer.{allGone, grown, shrunk, targetAnswer}
 use Rattle.response_rules.specs.Nadir.{afterVisit}
-use Rattle.response_rules.specs.Overall.{overallBy}
+use Rattle.response_rules.specs.OverallAnswer.{overallBy}
 use Rattle.response_rules.specs.Change.{changeBetween, changeOf}
-use Rattle.response_rules.specs.Visits.{overallAnswer}
+use Rattle.response_rules.specs.VisitAnswers.{overallAnswer}
 use Rattle.response.specs.Examples.{JudgedVisits}
 
 pub judged-visits : JudgedVisits

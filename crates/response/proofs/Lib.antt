@@ -1,5 +1,5 @@
 pub mod AtTheEdges
-pub mod TargetRules
-pub mod OverallRules
-pub mod Least
-pub mod Rounding
+pub mod TargetReturns
+pub mod OverallReturns
+pub mod NadirReturns
+pub mod ChangeReturns

@@ -7,9 +7,9 @@ use Prim.Native.Nat.{ℕ}
 use Rattle.records.specs.declared.BaselineEntry.{BaselineEntry}
 use Rattle.response_rules.specs.Words.{targetWord, overallWord}
 use Rattle.response_rules.specs.Inputs.{Visit, diseaseOf}
-use Rattle.response_rules.specs.Targets.{targetAnswer}
+use Rattle.response_rules.specs.TargetAnswer.{targetAnswer}
 use Rattle.response_rules.specs.Nadir.{leftBy, afterVisit}
-use Rattle.response_rules.specs.Visits.{overallAnswer}
+use Rattle.response_rules.specs.VisitAnswers.{overallAnswer}
 use Rattle.response_rules.specs.Change.{changeValues, changeOf}
 use Rattle.response_rules.specs.declared.BaselineDisease.{BaselineDisease}
 use Rattle.response_rules.specs.declared.Earlier.{Earlier}

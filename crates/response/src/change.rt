@@ -4,7 +4,7 @@ use response_rules::ChangeAnswer;
 ghost use mathlib.Core.Path.{_≡_};
 ghost use Prim.Native.Nat.{_*_, _≤_};
 ghost use Rattle.response_rules.specs.Inputs.{Visit};
-ghost use Rattle.response_rules.specs.Sums.{measuredSum, allMeasured};
+ghost use Rattle.response_rules.specs.SumOfDiameters.{measuredSum, allMeasured};
 ghost use Rattle.response_rules.specs.Change.{nearest, changeValues, changeBetween, changeOf};
 
 // A part of the baseline sum in tenths of a percent.

@@ -5,7 +5,7 @@ use response_rules::Target;
 ghost use mathlib.Core.Path.{_≡_};
 ghost use Prim.Native.Nat.{_<_, _≤_};
 ghost use Rattle.response_rules.specs.Words.{PD, codeOf, targetWord, statusWord, overallWord};
-ghost use Rattle.response_rules.specs.Overall.{rows, columns, rowOf, columnOf, cell, overallBy};
+ghost use Rattle.response_rules.specs.OverallAnswer.{rows, columns, rowOf, columnOf, cell, overallBy};
 
 // The codes of answers in the grid; PD, which no cell has, follows them.
 const CR: u8 = 0;

@@ -2,7 +2,7 @@
 use response_rules::Earlier;
 ghost use mathlib.Core.Path.{_≡_};
 ghost use Rattle.response_rules.specs.Inputs.{Visit};
-ghost use Rattle.response_rules.specs.Sums.{measuredSum, allMeasured};
+ghost use Rattle.response_rules.specs.SumOfDiameters.{measuredSum, allMeasured};
 ghost use Rattle.response_rules.specs.Nadir.{afterVisit};
 ghost use Rattle.response_rules.specs.declared.BaselineDisease.{BaselineDisease};
 

@@ -2,7 +2,7 @@
 ghost use mathlib.Core.Path.{_≡_};
 ghost use Prim.Native.Nat.{_≤_};
 ghost use Rattle.laws.specs.Choice.{pick};
-ghost use Rattle.response_rules.specs.Sums.{measuredSum, baselineSum, allMeasured};
+ghost use Rattle.response_rules.specs.SumOfDiameters.{measuredSum, baselineSum, allMeasured};
 
 fn size_if(marked: bool, size: u16) -> u32
     ensures { λ r. ⌜ (r ≡ pick marked size 0) × (r ≤ 65535) ⌝ }

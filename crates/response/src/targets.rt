@@ -7,7 +7,7 @@ use response_rules::Target;
 ghost use mathlib.Core.Path.{_≡_};
 ghost use Rattle.response_rules.specs.Words.{targetWord};
 ghost use Rattle.response_rules.specs.Inputs.{Visit};
-ghost use Rattle.response_rules.specs.Targets.{gone, allGone, grown, shrunk, targetAnswer};
+ghost use Rattle.response_rules.specs.TargetAnswer.{gone, allGone, grown, shrunk, targetAnswer};
 
 // The short axis in millimetres up to which a node is normal.
 const NORMAL_NODE: u16 = 9;

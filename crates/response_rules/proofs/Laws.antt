@@ -10,12 +10,12 @@ use lib.Dec.{eqb}
 use Rattle.laws.specs.Choice.{pick}
 use Rattle.laws.proofs.Tests.{either-with-true}
 use Rattle.response_rules.specs.Words.{Word, PD, NE, statusWord}
-use Rattle.response_rules.specs.Sums.{measuredSum, allMeasured}
+use Rattle.response_rules.specs.SumOfDiameters.{measuredSum, allMeasured}
 use Rattle.response_rules.specs.Inputs.{Visit}
 use Rattle.response_rules.specs.Nadir.{completeSums, leastOf, nadirOf, leftBy, afterVisit}
-use Rattle.response_rules.specs.Overall.{isPD, overallBy}
+use Rattle.response_rules.specs.OverallAnswer.{isPD, overallBy}
 use Rattle.response_rules.specs.Change.{none, nearest, changeOf}
-use Rattle.response_rules.specs.Visits.{overallAnswer, visitTarget, visitOverall}
+use Rattle.response_rules.specs.VisitAnswers.{overallAnswer, visitTarget, visitOverall}
 use Rattle.response_rules.specs.Laws.{OverallLaws, NadirLaws, ChangeLaws}
 use Rattle.response_rules.specs.declared.BaselineDisease.{BaselineDisease}
 

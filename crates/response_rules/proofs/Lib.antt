@@ -1,3 +1,3 @@
-pub mod Codes
-pub mod Examples
+pub mod WordsByCode
+pub mod AtTheEdges
 pub mod Laws

@@ -5,7 +5,7 @@ use mathlib.Core.Bool.{Bool, true, false, not}
 use lib.Dec.{ltb, eqb}
 use Rattle.laws.specs.Choice.{both, either, pick}
 use Rattle.response_rules.specs.Inputs.{Visit}
-use Rattle.response_rules.specs.Sums.{measuredSum, allMeasured}
+use Rattle.response_rules.specs.SumOfDiameters.{measuredSum, allMeasured}
 use Rattle.response_rules.specs.declared.BaselineDisease.{BaselineDisease}
 use Rattle.response_rules.specs.declared.ChangeAnswer.{ChangeAnswer}
 use Rattle.response_rules.specs.declared.ChangeAnswer.the-variants.{Absent, Increase, Decrease}

@@ -1,5 +1,5 @@
 -- Document 01, "Examples at the edges", its wrong readings and the printed example, as far as they speak of visits, cases in which one sentence of "Visit
--- responses" applies alone, and the words of the declared cases: stated here, proved in proofs/Examples.antt.
+-- responses" applies alone, and the words of the declared cases: stated here, proved in proofs/AtTheEdges.antt.
 -- Assumes nothing.
 use mathlib.Core.Path.{_≡_}
 use mathlib.Core.Bool.{Bool, true, false}
@@ -11,11 +11,11 @@ use Rattle.records.specs.declared.Status.{Status}
 use Rattle.records.specs.declared.Status.the-variants as S
 use Rattle.response_rules.specs.Words.{Word, CR, PR, SD, PD, NE, NA, NN, targetWord, statusWord, overallWord}
 use Rattle.response_rules.specs.Inputs.{Visit, diseaseOf}
-use Rattle.response_rules.specs.Sums.{measuredSum, baselineSum}
+use Rattle.response_rules.specs.SumOfDiameters.{measuredSum, baselineSum}
 use Rattle.response_rules.specs.Nadir.{afterVisit, nadirOf}
-use Rattle.response_rules.specs.Overall.{isPD, overallBy, evaluable}
+use Rattle.response_rules.specs.OverallAnswer.{isPD, overallBy, evaluable}
 use Rattle.response_rules.specs.Change.{none, signed, changeValues, changeBetween, changeOf}
-use Rattle.response_rules.specs.Visits.{visitTarget, visitOverall}
+use Rattle.response_rules.specs.VisitAnswers.{visitTarget, visitOverall}
 use Rattle.response_rules.specs.declared.BaselineDisease.{BaselineDisease}
 use Rattle.response_rules.specs.declared.Earlier.{Earlier}
 use Rattle.response_rules.specs.declared.Target.the-variants as T

@@ -6,7 +6,7 @@ use mathlib.Core.List.{List}
 use Rattle.records.specs.declared.BaselineEntry.{BaselineEntry}
 use Rattle.records.specs.declared.Status.{Status}
 use Rattle.records.specs.declared.VisitEntry.{VisitEntry}
-use Rattle.response_rules.specs.Sums.{baselineSum}
+use Rattle.response_rules.specs.SumOfDiameters.{baselineSum}
 use Rattle.response_rules.specs.declared.BaselineDisease.{BaselineDisease}
 
 -- what a baseline with these nodes and sizes leaves for judging visits

@@ -5,11 +5,11 @@ use mathlib.Core.Bool.{true, false}
 use mathlib.Core.List.{List, reverse}
 use Prim.Native.Nat.{ℕ, _+_, _*_, _≤_, _<_}
 use Rattle.response_rules.specs.Words.{PD, NE, statusWord}
-use Rattle.response_rules.specs.Sums.{allMeasured}
+use Rattle.response_rules.specs.SumOfDiameters.{allMeasured}
 use Rattle.response_rules.specs.Inputs.{Visit}
 use Rattle.response_rules.specs.Nadir.{leftBy, nadirOf}
 use Rattle.response_rules.specs.Change.{none, nearest, changeOf}
-use Rattle.response_rules.specs.Visits.{visitTarget, visitOverall}
+use Rattle.response_rules.specs.VisitAnswers.{visitTarget, visitOverall}
 use Rattle.response_rules.specs.declared.BaselineDisease.{BaselineDisease}
 
 pub record OverallLaws : Type 0 where

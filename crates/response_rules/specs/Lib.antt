@@ -1,10 +1,10 @@
 pub mod Words
-pub mod Sums
+pub mod SumOfDiameters
 pub mod Inputs
-pub mod Targets
+pub mod TargetAnswer
 pub mod Nadir
-pub mod Overall
+pub mod OverallAnswer
 pub mod Change
-pub mod Visits
+pub mod VisitAnswers
 pub mod Examples
 pub mod Laws

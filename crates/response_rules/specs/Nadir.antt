@@ -3,7 +3,7 @@
 use Prim.Native.Nat.{ℕ, min}
 use mathlib.Core.List.{List, [], _∷_}
 use Rattle.laws.specs.Choice.{pick}
-use Rattle.response_rules.specs.Sums.{measuredSum, allMeasured}
+use Rattle.response_rules.specs.SumOfDiameters.{measuredSum, allMeasured}
 use Rattle.response_rules.specs.Inputs.{Visit}
 use Rattle.response_rules.specs.declared.BaselineDisease.{BaselineDisease}
 use Rattle.response_rules.specs.declared.Earlier.{Earlier}

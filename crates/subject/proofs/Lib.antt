@@ -1,9 +1,9 @@
-pub mod Follows
-pub mod Ordered
-pub mod Within
+pub mod HeldFollowsVisits
+pub mod CountingDaysFall
+pub mod RangeLaws
 mod Returns
 pub mod WorkedExamples
-pub mod OpeningFollows
-pub mod OpeningWithin
+pub mod HeldAfterBaseline
+pub mod OpeningInRange
 mod OpeningReturns
-pub mod OpeningWorkedExamples
+pub mod OpeningExamples

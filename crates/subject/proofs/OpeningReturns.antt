@@ -22,15 +22,15 @@ use Rattle.records.specs.declared.Entry.the-variants as E
 use Rattle.records.specs.declared.Record.{Record}
 use Rattle.records.specs.declared.CheckAnswer.{CheckAnswer}
 use Rattle.records.specs.declared.CheckAnswer.the-variants as C
-use Rattle.records.specs.Form.{Five}
+use Rattle.records.specs.Entries.{Five}
 use Rattle.records.specs.Refusals.{ownNumber, checkNumber, refusalsOfRead, refusalOf}
 use Rattle.records.specs.declared.OwnRefusal.{OwnRefusal}
-use Rattle.records.proofs.Passed.{own-not-0, after-own}
+use Rattle.records.proofs.NoOwnRefusal.{own-not-0, after-own}
 use Rattle.dates.specs.Calendar.{dateExists}
 use Rattle.codec.specs.declared.ReadAnswer.the-variants as R
 use Rattle.codec.specs.declared.ReadResult.{ReadResult}
 use Rattle.codec.specs.Reading.{readNumber, refusalOfBytes, recordOfBytes, blank as blankRecord, Reads}
-use Rattle.codec.proofs.Fine.{after-reading, found-fine}
+use Rattle.codec.proofs.NoRefusalOfBytes.{after-reading, found-fine}
 use Rattle.outcome_rules.specs.Adding.{notBaseline, refusalsOfOpening, refusalOfOpening}
 use Rattle.subject.specs.declared.Subject.{Subject}
 use Rattle.subject.specs.declared.OpenAnswer.{OpenAnswer}

@@ -17,14 +17,14 @@ use Rattle.outcome_rules.specs.declared.BestResponse.{BestResponse}
 use Rattle.outcome_rules.specs.declared.BestResponse.the-variants as B
 use Rattle.outcome_rules.specs.Values.{isRecorded, dayValue, bestWord}
 use Rattle.outcome_rules.specs.Course.{Judged, judgedValues}
-use Rattle.outcome_rules.specs.Best.{confirmDays, stableFrom, bestOf}
+use Rattle.outcome_rules.specs.BestResponse.{confirmDays, stableFrom, bestOf}
 use Rattle.subject.specs.declared.EventDays.{EventDays}
 use Rattle.subject.specs.declared.CountingVisits.{CountingVisits}
 use Rattle.subject.specs.declared.Enrolment.{Enrolment}
 use Rattle.subject.specs.declared.FollowUp.{FollowUp}
 use Rattle.subject.specs.Range.{firstDay, largestSum, dayInRange, maybeInRange, eventInRange, countedInRange, enrolmentInRange, followUpInRange}
 use Rattle.subject.specs.Days.{firstOf, farAfter}
-use Rattle.subject.specs.Visits.{evaluableOn, eventAfter, bestFrom, betterOf, shownBy, firstAfter, startAfter, countedAfter}
+use Rattle.subject.specs.OneVisitMore.{evaluableOn, eventAfter, bestFrom, betterOf, shownBy, firstAfter, startAfter, countedAfter}
 
 -- ---- days that may be absent
 

@@ -3,16 +3,16 @@
 -- Assumes nothing.
 use mathlib.Core.Path.{refl}
 use Rattle.dates.specs.Calendar.{leapYear, daysInMonth, dateExists}
-use Rattle.response_rules.specs.Sums.{measuredSum, baselineSum, allMeasured}
-use Rattle.response_rules.specs.Targets.{allGone, grown, shrunk, targetAnswer}
+use Rattle.response_rules.specs.SumOfDiameters.{measuredSum, baselineSum, allMeasured}
+use Rattle.response_rules.specs.TargetAnswer.{allGone, grown, shrunk, targetAnswer}
 use Rattle.response_rules.specs.Nadir.{afterVisit}
-use Rattle.response_rules.specs.Overall.{overallBy}
-use Rattle.response_rules.specs.Visits.{overallAnswer}
+use Rattle.response_rules.specs.OverallAnswer.{overallBy}
+use Rattle.response_rules.specs.VisitAnswers.{overallAnswer}
 use Rattle.outcome_rules.specs.Course.{answerAt}
 use Rattle.subject.specs.Range.{enrolmentInRange, followUpInRange, inRange}
-use Rattle.subject.specs.Visits.{eventAfter, countedAfter}
+use Rattle.subject.specs.OneVisitMore.{eventAfter, countedAfter}
 use Rattle.subject.specs.Summary.{eventOf, countedOf, summary}
-use Rattle.subject.specs.Examples.{RangeAtTheEdges, EventsAfter, CountsAfter, BestInOrder, StartsOfCR, EventsOfVisits, CountsOfVisits, HeldOfRecords}
+use Rattle.subject.specs.HeldExamples.{RangeAtTheEdges, EventsAfter, CountsAfter, BestInOrder, StartsOfCR, EventsOfVisits, CountsOfVisits, HeldOfRecords}
 
 pub range-at-the-edges : RangeAtTheEdges
 unfolding leapYear daysInMonth dateExists enrolmentInRange followUpInRange inRange

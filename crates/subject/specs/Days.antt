@@ -6,7 +6,7 @@ use Rattle.dates.specs.declared.StudyDay.{StudyDay}
 use Rattle.outcome_rules.specs.declared.MaybeDay.{MaybeDay}
 use Rattle.outcome_rules.specs.declared.MaybeDay.the-variants as M
 use Rattle.outcome_rules.specs.Values.{Day, none, on}
-use Rattle.outcome_rules.specs.Best.{farApart}
+use Rattle.outcome_rules.specs.BestResponse.{farApart}
 
 abbrev pub at : ℕ → StudyDay
 at d = record { 0 = d }

@@ -1,4 +1,4 @@
--- Document 01, "Where a call stops": 12 in its own numbers; proved in proofs/Within.antt.
+-- Document 01, "Where a call stops": 12 in its own numbers; proved in proofs/RangeLaws.antt.
 -- Assumes nothing.
 use mathlib.Core.Path.{_≡_}
 use mathlib.Core.Bool.{true}

@@ -1,8 +1,8 @@
 pub mod Days
 pub mod Range
-pub mod Visits
+pub mod OneVisitMore
 pub mod Summary
 pub mod Opening
 pub mod Laws
-pub mod Examples
+pub mod HeldExamples
 pub mod OpeningExamples

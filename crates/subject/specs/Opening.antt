@@ -13,7 +13,7 @@ use Rattle.records.specs.declared.BaselineEntry.{BaselineEntry}
 use Rattle.records.specs.declared.Entry.{Entry}
 use Rattle.records.specs.declared.Entry.the-variants as E
 use Rattle.records.specs.declared.Record.{Record}
-use Rattle.records.specs.Form.{Five}
+use Rattle.records.specs.Entries.{Five}
 use Rattle.records.specs.Refusals.{ownNumber}
 use Rattle.laws.specs.Layout.{AreBytes}
 use Rattle.codec.specs.Reading.{refusalsOfBytes, recordOfBytes}

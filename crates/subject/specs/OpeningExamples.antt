@@ -10,7 +10,7 @@ use Rattle.records.specs.declared.OwnRefusal.the-variants as N
 use Rattle.outcome_rules.specs.declared.MaybeDay.the-variants as M
 use Rattle.outcome_rules.specs.AddingExamples.{printedBaseline, visited}
 use Rattle.subject.specs.declared.Subject.{Subject}
-use Rattle.subject.specs.Examples.{events, noCounts, subjectWith, printedOpened}
+use Rattle.subject.specs.HeldExamples.{events, noCounts, subjectWith, printedOpened}
 use Rattle.subject.specs.Opening.{openNumber, openedSubject}
 use Rattle.subject.specs.declared.OpenAnswer.the-variants as O
 

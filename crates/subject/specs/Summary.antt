@@ -7,15 +7,16 @@ use Rattle.dates.specs.declared.Date.{Date}
 use Rattle.response_rules.specs.Nadir.{leftBy}
 use Rattle.outcome_rules.specs.Values.{Day, none, on, isRecorded, _orElse_}
 use Rattle.outcome_rules.specs.StudyRecords.{Baseline, disease}
-use Rattle.outcome_rules.specs.Lawful.{Past, latestDay, deathDay}
+use Rattle.outcome_rules.specs.LawfulLists.{Past, latestDay, deathDay}
 use Rattle.outcome_rules.specs.Course.{visitsOf, Judged, course, treated, visitsIn, firstPD, counting}
 use Rattle.outcome_rules.specs.Pfs.{beforeEvent, lastVisit, lastEvaluable}
-use Rattle.outcome_rules.specs.Best.{isCR, mayStandBetween, confirmedCR, confirmedResponse, stable, bestOf, firstResponse}
+use Rattle.outcome_rules.specs.BestResponse.{isCR, mayStandBetween, confirmedCR, confirmedResponse, stable, bestOf}
+use Rattle.outcome_rules.specs.Duration.{firstResponse}
 use Rattle.subject.specs.declared.EventDays.{EventDays}
 use Rattle.subject.specs.declared.CountingVisits.{CountingVisits}
 use Rattle.subject.specs.declared.Subject.{Subject}
 use Rattle.subject.specs.Days.{at, maybe}
-use Rattle.subject.specs.Visits.{bestFrom}
+use Rattle.subject.specs.OneVisitMore.{bestFrom}
 
 -- the first CR since which every visit was CR or NE
 abbrev pub crStart : List Judged → Day

@@ -12,7 +12,7 @@ use outcome_values::is_recorded;
 use response_rules::Overall;
 ghost use mathlib.Core.Path.{_≡_};
 ghost use Rattle.outcome_rules.specs.Course.{judgedValues};
-ghost use Rattle.subject.specs.Visits.{evaluableOn, eventAfter, bestFrom, betterOf, shownBy, firstAfter, startAfter, countedAfter};
+ghost use Rattle.subject.specs.OneVisitMore.{evaluableOn, eventAfter, bestFrom, betterOf, shownBy, firstAfter, startAfter, countedAfter};
 
 // The day from which SD is a best response.
 const STABLE_FROM: u32 = 36;

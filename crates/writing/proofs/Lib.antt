@@ -1,5 +1,5 @@
 pub mod AtTheEdges
-pub mod Parts
+pub mod FieldsFit
 pub mod ReadBack
 pub mod WrittenBack
 pub mod RoundTrip

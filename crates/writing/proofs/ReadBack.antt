@@ -7,22 +7,22 @@ use Prim.Native.Nat.{ℕ, _<_}
 use lib.Dec.{lit<}
 use lib.ListN.{getD, length}
 use borrow.Author.Tests.{le-ltb, le-leb}
-use Rattle.laws.proofs.Some.{some-none}
-use Rattle.laws.proofs.Lists.{whole}
+use Rattle.laws.proofs.SomeNumber.{some-none}
+use Rattle.laws.proofs.ListsByElement.{whole}
 use Rattle.laws.specs.Layout.{total, unpack, Fit, bytes}
-use Rattle.laws.proofs.Packing.{pack-lt, unpack-pack, pack-unpack}
-use Rattle.laws.proofs.Append.{fit-append}
-use Rattle.records.specs.Form.{dateOf, Five, kindNumber, statusNumber}
+use Rattle.laws.proofs.PackUnpack.{pack-lt, unpack-pack, pack-unpack}
+use Rattle.laws.proofs.LayoutsAppended.{fit-append}
+use Rattle.records.specs.Entries.{dateOf, Five, kindNumber, statusNumber}
 use Rattle.records.specs.Refusals.{mostTargets, setBeyond, targetAt, someTarget, notZero, refusalOf}
 use Rattle.records.specs.declared.Record.{Record}
 use Rattle.records.specs.declared.Entry.{Entry}
 use Rattle.records.specs.declared.Entry.the-variants.{Baseline, Visit, Therapy, Death}
 use Rattle.records.specs.declared.Status.{Status}
 use Rattle.records.specs.declared.Status.the-variants.{NA, CR, NN, PD, NE}
-use Rattle.records.proofs.Passed.{passes, clear-target}
+use Rattle.records.proofs.NoOwnRefusal.{passes, clear-target}
 use Rattle.codec.specs.Bytes.{recordLength, bit, headLayout, bodyLayout, headFields, targetFields, bodyFields, layoutOf, fieldsOf, recordNumber, bytesOf, bytesNumber}
 use Rattle.codec.specs.Reading.{isOne, dateFrom, marksFrom, sizesFrom, statusFrom, baselineFrom, visitFrom, spareFrom, baselineIn, visitIn, spareIn, rawIn, kindIn, refusalsOfNumber, refusalsOfBytes, refusalOfBytes, recordOfBytes}
-use Rattle.writing.proofs.Parts.{status-le, kind-range, head-fits, body-fits}
+use Rattle.writing.proofs.FieldsFit.{status-le, kind-range, head-fits, body-fits}
 
 isOne-bit : (b : Bool) → isOne (bit b) ≡ b
 isOne-bit true = refl

@@ -8,11 +8,11 @@ use borrow.Author.Tests.{le-ltb}
 use Rattle.dates.specs.Calendar.{leapYear, daysInMonth, dateExists}
 use Rattle.records.specs.Refusals.{wrongSize, setBeyond, withoutDisease, outsideLimits, notZero, refusalsOfRead, refusalOf}
 use Rattle.records.specs.declared.Record.{Record}
-use Rattle.records.proofs.Passed.{none-after-own}
+use Rattle.records.proofs.NoOwnRefusal.{none-after-own}
 use Rattle.codec.specs.Bytes.{recordLength, recordNumber, bytesOf, bytesNumber}
 use Rattle.codec.specs.Examples.{printedBaseline, printedBytes}
 use Rattle.codec.specs.Reading.{baselineIn, rawIn, refusalsOfNumber, refusalsOfBytes, refusalOfBytes, recordOfBytes}
-use Rattle.codec.proofs.Fine.{found-fine}
+use Rattle.codec.proofs.NoRefusalOfBytes.{found-fine}
 use Rattle.writing.specs.Writing.{writeNumber, refusalOfWrite, outputOf, Writes}
 use Rattle.writing.specs.Laws.{RoundTrips}
 use Rattle.writing.specs.declared.WriteAnswer.{WriteAnswer}

@@ -10,17 +10,17 @@ use borrow.Author.Tests.{lt-ltb, le-ltb}
 use Rattle.laws.specs.Choice.{pick}
 use Rattle.laws.specs.Refusals.{_when_, first}
 use Rattle.laws.specs.Layout.{pack, unpack, bytes}
-use Rattle.records.specs.Form.{dateOf, kindNumber, Five}
+use Rattle.records.specs.Entries.{dateOf, kindNumber, Five}
 use Rattle.records.specs.Refusals.{ownNumber, checkNumber, refusalOf}
 use Rattle.records.specs.declared.Record.{Record}
 use Rattle.records.specs.declared.CheckAnswer.{CheckAnswer}
 use Rattle.records.specs.declared.CheckAnswer.the-variants as C
 use Rattle.records.specs.declared.OwnRefusal.{OwnRefusal}
-use Rattle.records.proofs.Passed.{own-not-0, passes, after-own}
+use Rattle.records.proofs.NoOwnRefusal.{own-not-0, passes, after-own}
 use Rattle.codec.specs.Bytes.{headLayout, bodyLayout, headFields, bodyFields, recordLength, bytesOf}
 use Rattle.writing.specs.Writing.{refusalOfWrite, outputOf, Writes}
 use Rattle.writing.specs.declared.WriteAnswer.the-variants as W
-use Rattle.writing.proofs.Parts.{two-parts}
+use Rattle.writing.proofs.FieldsFit.{two-parts}
 
 module _ (r : Record) (out : List ℕ) (a : CheckAnswer) (f : Five r) (e : checkNumber a ≡ refusalOf r) where
   -- 3 to 5 as checked, or else 6

@@ -8,15 +8,15 @@ use native.Mathlib.Omega.{arith}
 use lib.Dec.{ltb, eqb}
 use lib.ListN.{getD}
 use borrow.Author.Tests.{eqb-true, eqb-false, ltb-false}
-use Rattle.laws.proofs.Every.{all-at}
+use Rattle.laws.proofs.EveryNumber.{all-at}
 use Rattle.laws.specs.Layout.{total, pack, unpack, Fit, bytes, AreBytes}
-use Rattle.laws.proofs.Packing.{pack-lt, unpack-pack, pack-unpack}
-use Rattle.laws.proofs.Leading.{bytes-fit}
-use Rattle.records.specs.Form.{statusNumber}
+use Rattle.laws.proofs.PackUnpack.{pack-lt, unpack-pack, pack-unpack}
+use Rattle.laws.proofs.FieldOfBytes.{bytes-fit}
+use Rattle.records.specs.Entries.{statusNumber}
 use Rattle.records.specs.declared.Record.{Record}
 use Rattle.codec.specs.Bytes.{recordLength, bit, baselineLayout, visitLayout, spareLayout, layoutOf, fieldsOf, recordNumber, bytesOf, bytesNumber}
 use Rattle.codec.specs.Reading.{isOne, statusFrom, baselineIn, visitIn, spareIn, rawIn, kindIn, refusalOfBytes, recordOfBytes}
-use Rattle.codec.proofs.Fine.{fine, eleven, no-refusal}
+use Rattle.codec.proofs.NoRefusalOfBytes.{fine, eleven, no-refusal}
 use Rattle.writing.proofs.ReadBack.{layout-total}
 
 -- a bit that was read is the bit of its mark

@@ -7,7 +7,7 @@ use lib.Dec.{ltb, eqb}
 use lib.ListN.{length, drop}
 use Rattle.laws.specs.Choice.{pick}
 use Rattle.laws.specs.Refusals.{_when_, first}
-use Rattle.records.specs.Form.{Five}
+use Rattle.records.specs.Entries.{Five}
 use Rattle.records.specs.Refusals.{ownNumber, refusalsOf}
 use Rattle.records.specs.declared.Record.{Record}
 use Rattle.codec.specs.Bytes.{recordLength, bytesOf}

@@ -8,7 +8,7 @@ ghost use Prim.Native.Nat.{ℕ, _+_, _*_, _^_, _<_, _≤_};
 ghost use lib.ListN.{length, getD, drop};
 ghost use Rattle.laws.specs.Layout.{pack, unpack, bytes};
 ghost use Rattle.dates.specs.Calendar.{dateExists};
-ghost use Rattle.records.specs.Form.{dateOf, kindNumber, statusNumber};
+ghost use Rattle.records.specs.Entries.{dateOf, kindNumber, statusNumber};
 ghost use Rattle.records.specs.Refusals.{outsideLimits, notZero};
 ghost use Rattle.codec.specs.Bytes.{recordLength, headLayout, targetsLayout, bodyLayout, headFields, targetFields, bodyFields, bit};
 

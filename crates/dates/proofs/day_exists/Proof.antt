@@ -2,7 +2,7 @@
 -- Assumes nothing.
 use borrow.Author.Needs.{needs}
 use Rattle.laws.proofs.Tests.{tests}
-use Rattle.dates.proofs.Days.{early-day}
+use Rattle.dates.proofs.ClosedForms.{early-day}
 use Rattle.dates.proofs.day_exists.Statement.{statement}
 use Rattle.dates.proofs.day_exists.Tie as tie
 

@@ -11,7 +11,7 @@ use Rattle.laws.specs.Choice.{both, pick}
 use Rattle.dates.specs.Calendar.{firstYear, lastYear, leapYear, dateExists, daysOfYears, daysOfMonths, dayNumber}
 use Rattle.dates.specs.Answers.{counted, refused, dayNumberOf}
 use Rattle.dates.specs.declared.Date.{Date}
-use Rattle.dates.proofs.Days.{exists, leap-day}
+use Rattle.dates.proofs.ClosedForms.{exists, leap-day}
 use Rattle.dates.proofs.day_number.Statement.{statement}
 use Rattle.dates.proofs.day_number.Tie as tie
 

@@ -2,7 +2,7 @@
 -- Assumes nothing.
 use native.Mathlib.Omega.{arith}
 use borrow.Author.Needs.{needs}
-use Rattle.dates.proofs.Days.{before-march, from-march}
+use Rattle.dates.proofs.ClosedForms.{before-march, from-march}
 use Rattle.dates.proofs.days_before_month.Statement.{statement}
 use Rattle.dates.proofs.days_before_month.Tie as tie
 

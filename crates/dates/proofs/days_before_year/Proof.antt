@@ -2,7 +2,7 @@
 -- Assumes nothing.
 use native.Mathlib.Omega.{arith}
 use borrow.Author.Needs.{needs}
-use Rattle.dates.proofs.Days.{without-leap-day, with-leap-day}
+use Rattle.dates.proofs.ClosedForms.{without-leap-day, with-leap-day}
 use Rattle.dates.proofs.days_before_year.Statement.{statement}
 use Rattle.dates.proofs.days_before_year.Tie as tie
 

@@ -4,7 +4,7 @@ use mathlib.Core.Path.{sym, _∙_}
 use native.Mathlib.Omega.{arith}
 use borrow.Author.Needs.{needs}
 use Rattle.laws.proofs.Tests.{tests}
-use Rattle.dates.proofs.Days.{zero-month, month-past, february, other-month}
+use Rattle.dates.proofs.ClosedForms.{zero-month, month-past, february, other-month}
 use Rattle.dates.proofs.days_in_month.Statement.{statement}
 use Rattle.dates.proofs.days_in_month.Tie as tie
 

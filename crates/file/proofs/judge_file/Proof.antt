@@ -7,8 +7,8 @@ use native.Mathlib.Omega.{arith}
 use lib.ListN.{length}
 use Rattle.codec.specs.Bytes.{recordLength}
 use Rattle.codec.specs.Parts.{mostBytes}
-use Rattle.codec.proofs.Cut.{fair-length}
-use Rattle.file.proofs.Turns.{bad, first-refused, Standing, first-standing, turn-refused, turn, ended}
+use Rattle.codec.proofs.PartsJoined.{fair-length}
+use Rattle.file.proofs.TurnsOfLoop.{bad, first-refused, Standing, first-standing, turn-refused, turn, ended}
 use Rattle.file.proofs.judge_file.Statement.{statement}
 use Rattle.file.proofs.judge_file.Tie as tie
 

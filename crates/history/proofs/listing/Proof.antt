@@ -3,7 +3,7 @@
 use borrow.Author.Needs.{needs}
 use mathlib.Core.Path.{sym}
 use lib.Seq.{length-take-le}
-use Rattle.listing.proofs.Pages.{within-page}
+use Rattle.listing.proofs.PageAfterListing.{within-page}
 use Rattle.history.proofs.listing.Statement.{statement}
 use Rattle.history.proofs.listing.Tie as tie
 

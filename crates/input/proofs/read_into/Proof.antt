@@ -8,7 +8,7 @@ use mir.Val.{ofZ, toZ}
 use native.Mathlib.Omega.{arith}
 use lib.ListN.{length, drop}
 use Rattle.codec.specs.Parts.{mostBytes}
-use Rattle.input.proofs.Rest.{rest-kept, none-brought}
+use Rattle.input.proofs.ChunksStored.{rest-kept, none-brought}
 use Rattle.input.proofs.read_into.Statement.{statement}
 use Rattle.input.proofs.read_into.Tie as tie
 

@@ -5,7 +5,7 @@ use mathlib.Core.Path.{sym}
 use native.Mathlib.Omega.{arith}
 use lib.ListN.{length-take, length-drop}
 use lib.Seq.{length-take-le}
-use Rattle.input.proofs.Rest.{stored}
+use Rattle.input.proofs.ChunksStored.{stored}
 use Rattle.input.proofs.store.Statement.{statement}
 use Rattle.input.proofs.store.Tie as tie
 

@@ -5,7 +5,7 @@ use mathlib.Core.Path.{sym}
 use native.Mathlib.Omega.{arith}
 use lib.ListN.{length-take}
 use lib.Seq.{length-take-le}
-use Rattle.listing.proofs.Pages.{copied}
+use Rattle.listing.proofs.PageAfterListing.{copied}
 use Rattle.listing.proofs.copy.Statement.{statement}
 use Rattle.listing.proofs.copy.Tie as tie
 

@@ -7,8 +7,8 @@ use native.Mathlib.Omega.{arith}
 use lib.ListN.{length}
 use Rattle.codec.specs.Bytes.{recordLength}
 use Rattle.codec.specs.Parts.{mostBytes}
-use Rattle.codec.proofs.Cut.{fair-length}
-use Rattle.listing.proofs.Loop.{bad-into, first-into, turn-into, Printing, first-printing, next-writable, turn-printing, ended-into}
+use Rattle.codec.proofs.PartsJoined.{fair-length}
+use Rattle.listing.proofs.TurnsOfLoop.{bad-into, first-into, turn-into, Printing, first-printing, next-writable, turn-printing, ended-into}
 use Rattle.listing.proofs.judge_into.Statement.{statement}
 use Rattle.listing.proofs.judge_into.Tie as tie
 

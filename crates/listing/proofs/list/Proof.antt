@@ -2,7 +2,7 @@
 -- Assumes nothing.
 use borrow.Author.Needs.{needs}
 use native.Mathlib.Omega.{arith}
-use Rattle.listing.proofs.Pages.{small-index, told-within, lists-refused, lists-accepted}
+use Rattle.listing.proofs.PageAfterListing.{small-index, told-within, lists-refused, lists-accepted}
 use Rattle.listing.proofs.list.Statement.{statement}
 use Rattle.listing.proofs.list.Tie as tie
 

@@ -1,7 +1,7 @@
 -- `response::judge_visit` meets its contract: each part is what its rule ensures.
 -- Assumes nothing.
 use mathlib.Core.Path.{refl}
-use Rattle.response_rules.specs.Visits.{overallAnswer}
+use Rattle.response_rules.specs.VisitAnswers.{overallAnswer}
 use borrow.Author.Needs.{needs}
 use Rattle.response.proofs.judge_visit.Statement.{statement}
 use Rattle.response.proofs.judge_visit.Tie as tie

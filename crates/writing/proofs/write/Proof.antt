@@ -3,7 +3,7 @@
 use mathlib.Core.Path.{ap, _∙_, sym}
 use borrow.Author.Needs.{needs}
 use Rattle.records.specs.Refusals.{checkNumber}
-use Rattle.records.proofs.Passed.{passes}
+use Rattle.records.proofs.NoOwnRefusal.{passes}
 use Rattle.writing.proofs.WriteReturns.{writes-refused, writes-short, writes-parts}
 use Rattle.writing.proofs.write.Statement.{statement}
 use Rattle.writing.proofs.write.Tie as tie

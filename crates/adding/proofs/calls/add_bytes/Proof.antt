@@ -1,7 +1,7 @@
 -- `adding::calls::add_bytes` meets its contract.
 -- Assumes nothing.
 use borrow.Author.Needs.{needs}
-use Rattle.adding.proofs.Called.{bytes-added}
+use Rattle.adding.proofs.AddingAnswers.{bytes-added}
 use Rattle.adding.proofs.calls.add_bytes.Statement.{statement}
 use Rattle.adding.proofs.calls.add_bytes.Tie as tie
 

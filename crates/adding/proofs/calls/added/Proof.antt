@@ -1,7 +1,7 @@
 -- `adding::calls::added` meets its contract.
 -- Assumes nothing.
 use borrow.Author.Needs.{needs}
-use Rattle.adding.proofs.Called.{value-added}
+use Rattle.adding.proofs.AddingAnswers.{value-added}
 use Rattle.adding.proofs.calls.added.Statement.{statement}
 use Rattle.adding.proofs.calls.added.Tie as tie
 

@@ -1,7 +1,7 @@
 -- `adding::dating::dated` meets its contract.
 -- Assumes nothing.
 use borrow.Author.Needs.{needs}
-use Rattle.adding.proofs.Called.{value-dated}
+use Rattle.adding.proofs.AddingAnswers.{value-dated}
 use Rattle.adding.proofs.dating.dated.Statement.{statement}
 use Rattle.adding.proofs.dating.dated.Tie as tie
 

@@ -1,7 +1,7 @@
 -- `adding::dating::dated_bytes` meets its contract.
 -- Assumes nothing.
 use borrow.Author.Needs.{needs}
-use Rattle.adding.proofs.Called.{visit-dated, other-dated}
+use Rattle.adding.proofs.AddingAnswers.{visit-dated, other-dated}
 use Rattle.adding.proofs.dating.dated_bytes.Statement.{statement}
 use Rattle.adding.proofs.dating.dated_bytes.Tie as tie
 

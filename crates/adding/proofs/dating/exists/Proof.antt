@@ -1,7 +1,7 @@
 -- `adding::dating::exists` meets its contract.
 -- Assumes nothing.
 use borrow.Author.Needs.{needs}
-use Rattle.adding.proofs.Called.{exists-day, exists-before, exists-none}
+use Rattle.adding.proofs.AddingAnswers.{exists-day, exists-before, exists-none}
 use Rattle.adding.proofs.dating.exists.Statement.{statement}
 use Rattle.adding.proofs.dating.exists.Tie as tie
 

@@ -1,7 +1,7 @@
 -- `adding::dating::own_of_visit` meets its contract.
 -- Assumes nothing.
 use borrow.Author.Needs.{needs}
-use Rattle.adding.proofs.Called.{own-no-date, own-by-fields}
+use Rattle.adding.proofs.AddingAnswers.{own-no-date, own-by-fields}
 use Rattle.adding.proofs.dating.own_of_visit.Statement.{statement}
 use Rattle.adding.proofs.dating.own_of_visit.Tie as tie
 

@@ -1,7 +1,7 @@
 -- `adding::fitting::measured_beyond` meets its contract.
 -- Assumes nothing.
 use borrow.Author.Needs.{needs}
-use Rattle.outcome_rules.specs.Lawful.{measuredBeyond}
+use Rattle.outcome_rules.specs.LawfulLists.{measuredBeyond}
 use Rattle.adding.proofs.fitting.measured_beyond.Statement.{statement}
 use Rattle.adding.proofs.fitting.measured_beyond.Tie as tie
 

@@ -1,7 +1,7 @@
 -- `adding::fitting::some_beyond` meets its contract: at a count the definition is what the code joins.
 -- Assumes nothing.
 use native.Mathlib.Omega.{arith}
-use Rattle.outcome_rules.specs.Lawful.{measuredBeyond}
+use Rattle.outcome_rules.specs.LawfulLists.{measuredBeyond}
 use Rattle.adding.proofs.Returns.{none-beyond}
 use Rattle.adding.proofs.fitting.some_beyond.Statement.{statement}
 use Rattle.adding.proofs.fitting.some_beyond.Tie as tie

@@ -7,7 +7,7 @@ use native.Mathlib.Omega.{arith}
 use lib.Dec.{ltb}
 use borrow.Author.Needs.{needs}
 use borrow.Author.Tests.{lt-ltb}
-use Rattle.laws.proofs.Packing.{pack-unpack-mod}
+use Rattle.laws.proofs.PackUnpack.{pack-unpack-mod}
 use Rattle.codec.proofs.decode.body_set.Statement.{statement}
 use Rattle.codec.proofs.decode.body_set.Tie as tie
 

@@ -1,7 +1,7 @@
 -- `codec::fields::bits_of` meets its contract.
 -- Assumes nothing.
 use borrow.Author.Needs.{needs}
-use Rattle.codec.proofs.Window.{shifted-one, shifted-pos, bits-lt}
+use Rattle.codec.proofs.FieldOfThreeBytes.{shifted-one, shifted-pos, bits-lt}
 use Rattle.codec.proofs.fields.bits_of.Statement.{statement}
 use Rattle.codec.proofs.fields.bits_of.Tie as tie
 

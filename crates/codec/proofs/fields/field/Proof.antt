@@ -2,7 +2,7 @@
 -- Assumes nothing.
 use mathlib.Core.Path.{refl}
 use native.Mathlib.Omega.{arith}
-use Rattle.codec.proofs.Window.{field-read}
+use Rattle.codec.proofs.FieldOfThreeBytes.{field-read}
 use borrow.Author.Needs.{needs}
 use Rattle.codec.proofs.fields.field.Statement.{statement}
 use Rattle.codec.proofs.fields.field.Tie as tie

@@ -6,7 +6,7 @@ use mathlib.Core.Path.{_≡_, refl}
 use Prim.Native.Nat.{_-_, _/_, _≤_}
 use lib.ListN.{length}
 use Rattle.codec.specs.Bytes.{recordLength}
-use Rattle.history.proofs.Steps.{Goes, turn, ended, empty, replayed}
+use Rattle.history.proofs.ReplayAsCalls.{Goes, turn, ended, empty, replayed}
 use Rattle.history.proofs.replay.replay.Statement.{statement}
 use Rattle.history.proofs.replay.replay.Tie as tie
 

@@ -3,7 +3,7 @@
 use borrow.Author.Needs.{needs}
 use Rattle.outcome_rules.specs.Values.{bestWord}
 use Rattle.listing_text.specs.Text.{bestText}
-use Rattle.listing.proofs.Writing.{then, word}
+use Rattle.listing.proofs.TextsWritten.{then, word}
 use Rattle.listing.proofs.outcomes.put_best.Statement.{statement}
 use Rattle.listing.proofs.outcomes.put_best.Tie as tie
 

@@ -3,8 +3,8 @@
 use borrow.Author.Needs.{needs}
 use native.Mathlib.Omega.{arith}
 use Rattle.listing_text.specs.Text.{durationText}
-use Rattle.listing.proofs.Bounds.{days-small}
-use Rattle.listing.proofs.Writing.{then}
+use Rattle.listing.proofs.WritableCases.{days-small}
+use Rattle.listing.proofs.TextsWritten.{then}
 use Rattle.listing.proofs.outcomes.put_duration.Statement.{statement}
 use Rattle.listing.proofs.outcomes.put_duration.Tie as tie
 

@@ -3,7 +3,7 @@
 use borrow.Author.Needs.{needs}
 use native.Mathlib.Omega.{arith}
 use Rattle.listing_text.specs.Text.{outcomeText}
-use Rattle.listing.proofs.Writing.{then}
+use Rattle.listing.proofs.TextsWritten.{then}
 use Rattle.listing.proofs.outcomes.put_outcome.Statement.{statement}
 use Rattle.listing.proofs.outcomes.put_outcome.Tie as tie
 

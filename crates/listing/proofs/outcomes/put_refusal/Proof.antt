@@ -2,7 +2,7 @@
 -- Assumes nothing.
 use borrow.Author.Needs.{needs}
 use Rattle.listing_text.specs.Text.{refusalText}
-use Rattle.listing.proofs.Writing.{then}
+use Rattle.listing.proofs.TextsWritten.{then}
 use Rattle.listing.proofs.outcomes.put_refusal.Statement.{statement}
 use Rattle.listing.proofs.outcomes.put_refusal.Tie as tie
 

@@ -3,7 +3,7 @@
 use borrow.Author.Needs.{needs}
 use mathlib.Core.List.{[], _∷_}
 use Rattle.listing_text.specs.Text.{settledText}
-use Rattle.listing.proofs.Writing.{then, as-text}
+use Rattle.listing.proofs.TextsWritten.{then, as-text}
 use Rattle.listing.proofs.outcomes.put_settled.Statement.{statement}
 use Rattle.listing.proofs.outcomes.put_settled.Tie as tie
 

@@ -1,7 +1,7 @@
 -- `listing::outcomes::put_status_line` meets its contract.
 -- Assumes nothing.
 use borrow.Author.Needs.{needs}
-use Rattle.listing.proofs.Writing.{then}
+use Rattle.listing.proofs.TextsWritten.{then}
 use Rattle.listing.proofs.outcomes.put_status_line.Statement.{statement}
 use Rattle.listing.proofs.outcomes.put_status_line.Tie as tie
 

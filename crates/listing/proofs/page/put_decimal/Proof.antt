@@ -1,7 +1,7 @@
 -- `listing::page::put_decimal` meets its contract.
 -- Assumes nothing.
 use borrow.Author.Needs.{needs}
-use Rattle.listing.proofs.Numerals.{wrote-one, wrote-two, wrote-three, wrote-four, wrote-five}
+use Rattle.listing.proofs.DigitsStored.{wrote-one, wrote-two, wrote-three, wrote-four, wrote-five}
 use Rattle.listing.proofs.page.put_decimal.Statement.{statement}
 use Rattle.listing.proofs.page.put_decimal.Tie as tie
 

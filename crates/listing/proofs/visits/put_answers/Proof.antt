@@ -2,7 +2,7 @@
 -- Assumes nothing.
 use borrow.Author.Needs.{needs}
 use Rattle.response_rules.specs.Words.{targetWord, statusWord, overallWord}
-use Rattle.listing.proofs.Writing.{then, word}
+use Rattle.listing.proofs.TextsWritten.{then, word}
 use Rattle.listing.proofs.visits.put_answers.Statement.{statement}
 use Rattle.listing.proofs.visits.put_answers.Tie as tie
 

@@ -2,8 +2,8 @@
 -- Assumes nothing.
 use borrow.Author.Needs.{needs}
 use native.Mathlib.Omega.{arith}
-use Rattle.listing.proofs.Bounds.{increase-small, decrease-small}
-use Rattle.listing.proofs.Writing.{then}
+use Rattle.listing.proofs.WritableCases.{increase-small, decrease-small}
+use Rattle.listing.proofs.TextsWritten.{then}
 use Rattle.listing.proofs.visits.put_end.Statement.{statement}
 use Rattle.listing.proofs.visits.put_end.Tie as tie
 

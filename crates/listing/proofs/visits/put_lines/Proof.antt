@@ -3,8 +3,8 @@
 use borrow.Author.Needs.{needs}
 use mathlib.Core.Path.{sym}
 use mathlib.Core.List.{append-nil}
-use Rattle.listing.proofs.Bounds.{visit-writable}
-use Rattle.listing.proofs.Writing.{nothing, as-text}
+use Rattle.listing.proofs.WritableCases.{visit-writable}
+use Rattle.listing.proofs.TextsWritten.{nothing, as-text}
 use Rattle.listing.proofs.visits.put_lines.Statement.{statement}
 use Rattle.listing.proofs.visits.put_lines.Tie as tie
 

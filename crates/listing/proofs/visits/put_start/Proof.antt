@@ -1,7 +1,7 @@
 -- `listing::visits::put_start` meets its contract.
 -- Assumes nothing.
 use borrow.Author.Needs.{needs}
-use Rattle.listing.proofs.Writing.{then}
+use Rattle.listing.proofs.TextsWritten.{then}
 use Rattle.listing.proofs.visits.put_start.Statement.{statement}
 use Rattle.listing.proofs.visits.put_start.Tie as tie
 

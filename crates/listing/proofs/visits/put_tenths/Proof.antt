@@ -1,8 +1,8 @@
 -- `listing::visits::put_tenths` meets its contract.
 -- Assumes nothing.
 use borrow.Author.Needs.{needs}
-use Rattle.listing.proofs.Numerals.{tenths-text}
-use Rattle.listing.proofs.Writing.{then, as-text}
+use Rattle.listing.proofs.DigitsStored.{tenths-text}
+use Rattle.listing.proofs.TextsWritten.{then, as-text}
 use Rattle.listing.proofs.visits.put_tenths.Statement.{statement}
 use Rattle.listing.proofs.visits.put_tenths.Tie as tie
 

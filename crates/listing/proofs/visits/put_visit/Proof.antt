@@ -2,7 +2,7 @@
 -- Assumes nothing.
 use borrow.Author.Needs.{needs}
 use Rattle.listing_text.specs.Text.{visitText}
-use Rattle.listing.proofs.Writing.{then}
+use Rattle.listing.proofs.TextsWritten.{then}
 use Rattle.listing.proofs.visits.put_visit.Statement.{statement}
 use Rattle.listing.proofs.visits.put_visit.Tie as tie
 

@@ -1,7 +1,7 @@
 -- `listing::words::best_letters` meets its contract.
 -- Assumes nothing.
 use borrow.Author.Needs.{needs}
-use Rattle.listing.proofs.Writing.{of-best}
+use Rattle.listing.proofs.TextsWritten.{of-best}
 use Rattle.listing.proofs.words.best_letters.Statement.{statement}
 use Rattle.listing.proofs.words.best_letters.Tie as tie
 

@@ -1,7 +1,7 @@
 -- `listing::words::overall_letters` meets its contract.
 -- Assumes nothing.
 use borrow.Author.Needs.{needs}
-use Rattle.listing.proofs.Writing.{of-overall}
+use Rattle.listing.proofs.TextsWritten.{of-overall}
 use Rattle.listing.proofs.words.overall_letters.Statement.{statement}
 use Rattle.listing.proofs.words.overall_letters.Tie as tie
 

@@ -1,7 +1,7 @@
 -- `listing::words::put_status` meets its contract.
 -- Assumes nothing.
 use borrow.Author.Needs.{needs}
-use Rattle.listing.proofs.Writing.{then}
+use Rattle.listing.proofs.TextsWritten.{then}
 use Rattle.listing.proofs.words.put_status.Statement.{statement}
 use Rattle.listing.proofs.words.put_status.Tie as tie
 

@@ -1,7 +1,7 @@
 -- `listing::words::status_letters` meets its contract.
 -- Assumes nothing.
 use borrow.Author.Needs.{needs}
-use Rattle.listing.proofs.Writing.{of-status}
+use Rattle.listing.proofs.TextsWritten.{of-status}
 use Rattle.listing.proofs.words.status_letters.Statement.{statement}
 use Rattle.listing.proofs.words.status_letters.Tie as tie
 

@@ -1,7 +1,7 @@
 -- `listing::words::target_letters` meets its contract.
 -- Assumes nothing.
 use borrow.Author.Needs.{needs}
-use Rattle.listing.proofs.Writing.{of-target}
+use Rattle.listing.proofs.TextsWritten.{of-target}
 use Rattle.listing.proofs.words.target_letters.Statement.{statement}
 use Rattle.listing.proofs.words.target_letters.Tie as tie
 

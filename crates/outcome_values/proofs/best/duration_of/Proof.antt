@@ -1,7 +1,7 @@
 -- `outcome_values::best::duration_of` meets its contract.
 -- Assumes nothing.
 use borrow.Author.Needs.{needs}
-use Rattle.outcome_values.proofs.Parts.{response-days}
+use Rattle.outcome_values.proofs.Returns.{response-days}
 use Rattle.outcome_values.proofs.best.duration_of.Statement.{statement}
 use Rattle.outcome_values.proofs.best.duration_of.Tie as tie
 

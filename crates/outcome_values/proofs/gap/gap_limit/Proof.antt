@@ -1,6 +1,6 @@
 -- `outcome_values::gap::gap_limit` meets its contract.
 -- Assumes nothing.
-use Rattle.outcome_values.proofs.Parts.{first-day, second-band, third-band, last-band}
+use Rattle.outcome_values.proofs.Returns.{first-day, second-band, third-band, last-band}
 use Rattle.outcome_values.proofs.gap.gap_limit.Statement.{statement}
 use Rattle.outcome_values.proofs.gap.gap_limit.Tie as tie
 

@@ -1,7 +1,7 @@
 -- `outcome_values::gap::two_missed` meets its contract.
 -- Assumes nothing.
 use borrow.Author.Needs.{needs}
-use Rattle.outcome_values.proofs.Parts.{missed-by}
+use Rattle.outcome_values.proofs.Returns.{missed-by}
 use Rattle.outcome_values.proofs.gap.two_missed.Statement.{statement}
 use Rattle.outcome_values.proofs.gap.two_missed.Tie as tie
 

@@ -1,7 +1,7 @@
 -- `outcome_values::pfs::event_unless_missed` meets its contract.
 -- Assumes nothing.
 use borrow.Author.Needs.{needs}
-use Rattle.outcome_values.proofs.Parts.{missed, in-time}
+use Rattle.outcome_values.proofs.Returns.{missed, in-time}
 use Rattle.outcome_values.proofs.pfs.event_unless_missed.Statement.{statement}
 use Rattle.outcome_values.proofs.pfs.event_unless_missed.Tie as tie
 

@@ -1,7 +1,7 @@
 -- `outcome_values::pfs::pfs_of` meets its contract.
 -- Assumes nothing.
 use borrow.Author.Needs.{needs}
-use Rattle.outcome_values.proofs.Parts.{by-progression, by-death, by-neither}
+use Rattle.outcome_values.proofs.Returns.{by-progression, by-death, by-neither}
 use Rattle.outcome_values.proofs.pfs.pfs_of.Statement.{statement}
 use Rattle.outcome_values.proofs.pfs.pfs_of.Tie as tie
 

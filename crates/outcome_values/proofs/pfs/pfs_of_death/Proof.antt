@@ -2,7 +2,7 @@
 -- Assumes nothing.
 use borrow.Author.Needs.{needs}
 use Rattle.outcome_rules.specs.Pfs.{earlyDeath}
-use Rattle.outcome_values.proofs.Parts.{with-evaluable, early, not-early}
+use Rattle.outcome_values.proofs.Returns.{with-evaluable, early, not-early}
 use Rattle.outcome_values.proofs.pfs.pfs_of_death.Statement.{statement}
 use Rattle.outcome_values.proofs.pfs.pfs_of_death.Tie as tie
 

@@ -1,6 +1,6 @@
 -- `response::change::change_between` meets its contract.
 -- Assumes nothing.
-use Rattle.response.proofs.Rounding.{increase, no-tenth, decrease}
+use Rattle.response.proofs.ChangeReturns.{increase, no-tenth, decrease}
 use borrow.Author.Needs.{needs}
 use Rattle.response.proofs.change.change_between.Statement.{statement}
 use Rattle.response.proofs.change.change_between.Tie as tie

@@ -1,7 +1,7 @@
 -- `response::change::change_from_baseline` meets its contract.
 -- Assumes nothing.
 use borrow.Author.Needs.{needs}
-use Rattle.response.proofs.Rounding.{no-targets, some-unmeasured, no-baseline-sum, between}
+use Rattle.response.proofs.ChangeReturns.{no-targets, some-unmeasured, no-baseline-sum, between}
 use Rattle.response.proofs.change.change_from_baseline.Statement.{statement}
 use Rattle.response.proofs.change.change_from_baseline.Tie as tie
 

@@ -4,7 +4,7 @@ use mathlib.Core.Path.{refl}
 use mathlib.Core.List.{List, [], _∷_}
 use Prim.Native.Nat.{ℕ}
 use borrow.Author.Needs.{needs}
-use Rattle.response.proofs.OverallRules.{each-cell}
+use Rattle.response.proofs.OverallReturns.{each-cell}
 use Rattle.response.proofs.grid.code_at.Statement.{statement}
 use Rattle.response.proofs.grid.code_at.Tie as tie
 

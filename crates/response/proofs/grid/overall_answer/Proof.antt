@@ -1,6 +1,6 @@
 -- `response::grid::overall_answer` meets its contract: at each return the tests that led there decide the definition.
 -- Assumes nothing.
-use Rattle.response.proofs.OverallRules.{missing, new-lesion, target-pd, status-pd, in-grid}
+use Rattle.response.proofs.OverallReturns.{missing, new-lesion, target-pd, status-pd, in-grid}
 use borrow.Author.Needs.{needs}
 use Rattle.response.proofs.grid.overall_answer.Statement.{statement}
 use Rattle.response.proofs.grid.overall_answer.Tie as tie

@@ -1,7 +1,7 @@
 -- `response::nadir::after_visit` meets its contract.
 -- Assumes nothing.
 use borrow.Author.Needs.{needs}
-use Rattle.response.proofs.Least.{incomplete, not-less, least-now}
+use Rattle.response.proofs.NadirReturns.{incomplete, not-less, least-now}
 use Rattle.response.proofs.nadir.after_visit.Statement.{statement}
 use Rattle.response.proofs.nadir.after_visit.Tie as tie
 

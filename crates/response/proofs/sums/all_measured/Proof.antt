@@ -9,7 +9,7 @@ use lib.ListN.{getD}
 use borrow.Author.Tests.{lt-leb}
 use Rattle.laws.specs.Choice.{both}
 use Rattle.laws.proofs.Tests.{both-with-true}
-use Rattle.response_rules.specs.Sums.{allMeasured}
+use Rattle.response_rules.specs.SumOfDiameters.{allMeasured}
 use borrow.Author.Needs.{needs}
 use Rattle.response.proofs.sums.all_measured.Statement.{statement}
 use Rattle.response.proofs.sums.all_measured.Tie as tie

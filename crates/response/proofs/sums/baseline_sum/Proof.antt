@@ -1,6 +1,6 @@
 -- `response::sums::baseline_sum` meets its contract.
 -- Assumes nothing.
-use Rattle.response_rules.specs.Sums.{baselineSum}
+use Rattle.response_rules.specs.SumOfDiameters.{baselineSum}
 use borrow.Author.Needs.{needs}
 use Rattle.response.proofs.sums.baseline_sum.Statement.{statement}
 use Rattle.response.proofs.sums.baseline_sum.Tie as tie

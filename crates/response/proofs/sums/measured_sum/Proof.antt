@@ -1,6 +1,6 @@
 -- `response::sums::measured_sum` meets its contract.
 -- Assumes nothing.
-use Rattle.response_rules.specs.Sums.{measuredSum}
+use Rattle.response_rules.specs.SumOfDiameters.{measuredSum}
 use borrow.Author.Needs.{needs}
 use Rattle.response.proofs.sums.measured_sum.Statement.{statement}
 use Rattle.response.proofs.sums.measured_sum.Tie as tie

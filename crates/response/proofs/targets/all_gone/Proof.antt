@@ -9,7 +9,7 @@ use lib.ListN.{getD}
 use borrow.Author.Tests.{le-leb, lt-leb}
 use Rattle.laws.specs.Choice.{either, all}
 use Rattle.laws.proofs.Tests.{both-with-true, both-with-false}
-use Rattle.response_rules.specs.Targets.{gone, allGone}
+use Rattle.response_rules.specs.TargetAnswer.{gone, allGone}
 use borrow.Author.Needs.{needs}
 use Rattle.response.proofs.targets.all_gone.Statement.{statement}
 use Rattle.response.proofs.targets.all_gone.Tie as tie

@@ -1,7 +1,7 @@
 -- `response::targets::has_grown` meets its contract.
 -- Assumes nothing.
 use Rattle.laws.proofs.Tests.{tests}
-use Rattle.response_rules.specs.Targets.{grown}
+use Rattle.response_rules.specs.TargetAnswer.{grown}
 use borrow.Author.Needs.{needs}
 use Rattle.response.proofs.targets.has_grown.Statement.{statement}
 use Rattle.response.proofs.targets.has_grown.Tie as tie

@@ -1,7 +1,7 @@
 -- `response::targets::has_shrunk` meets its contract.
 -- Assumes nothing.
 use Rattle.laws.proofs.Tests.{tests}
-use Rattle.response_rules.specs.Targets.{shrunk}
+use Rattle.response_rules.specs.TargetAnswer.{shrunk}
 use borrow.Author.Needs.{needs}
 use Rattle.response.proofs.targets.has_shrunk.Statement.{statement}
 use Rattle.response.proofs.targets.has_shrunk.Tie as tie

@@ -1,6 +1,6 @@
 -- `response::targets::is_gone` meets its contract.
 -- Assumes nothing.
-use Rattle.response.proofs.TargetRules.{gone-as-tested}
+use Rattle.response.proofs.TargetReturns.{gone-as-tested}
 use Rattle.response.proofs.targets.is_gone.Statement.{statement}
 use Rattle.response.proofs.targets.is_gone.Tie as tie
 

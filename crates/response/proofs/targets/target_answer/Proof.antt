@@ -1,6 +1,6 @@
 -- `response::targets::target_answer` meets its contract: at each return the tests that led there pick the rule.
 -- Assumes nothing.
-use Rattle.response.proofs.TargetRules.{no-targets, complete, progressive, some-unmeasured, partly, stable}
+use Rattle.response.proofs.TargetReturns.{no-targets, complete, progressive, some-unmeasured, partly, stable}
 use borrow.Author.Needs.{needs}
 use Rattle.response.proofs.targets.target_answer.Statement.{statement}
 use Rattle.response.proofs.targets.target_answer.Tie as tie

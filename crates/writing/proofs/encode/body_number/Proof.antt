@@ -1,7 +1,7 @@
 -- `writing::encode::body_number` meets its contract: no refusal bounds the count and the sizes, so that no sum wraps.
 -- Assumes nothing.
 use native.Mathlib.Omega.{arith}
-use Rattle.records.proofs.Passed.{small-sizes, small-count}
+use Rattle.records.proofs.NoOwnRefusal.{small-sizes, small-count}
 use borrow.Author.Needs.{needs}
 use Rattle.writing.proofs.encode.body_number.Statement.{statement}
 use Rattle.writing.proofs.encode.body_number.Tie as tie

@@ -1,0 +1,71 @@
+-- What the bytes' fields as a visit say of the record that the bytes are read as.
+-- Assumes nothing.
+use mathlib.Core.Path.{_≡_, refl, sym, _∙_, ap}
+use mathlib.Core.Bool.{Bool, true, false}
+use mathlib.Core.List.{List}
+use Prim.Native.Nat.{ℕ}
+use lib.Dec.{eqb}
+use lib.ListN.{length}
+use borrow.Author.Tests.{eq-eqb, eqb-true}
+use Rattle.laws.specs.Choice.{pick}
+use Rattle.laws.specs.Refusals.{first}
+use Rattle.laws.proofs.Tests.{never}
+use Rattle.laws.specs.Layout.{AreBytes}
+use Rattle.dates.specs.declared.Date.{Date}
+use Rattle.records.specs.declared.Entry.the-variants as E
+use Rattle.records.specs.Entries.{dateOf}
+use Rattle.codec.specs.Bytes.{recordLength, bytesNumber}
+use Rattle.codec.specs.Reading.{baselineIn, rawVisit, visitFieldsIn, visitIn, spareIn, dateIn, kindIn, rawIn, refusalsOfRaw, refusalsOfNumber, refusalsOfBytes, refusalOfBytes, recordOfBytes, visitFieldsOf}
+use Rattle.codec.specs.declared.Raw.{Raw}
+use Rattle.codec.specs.declared.VisitFields.{VisitFields}
+use Rattle.codec.proofs.NoRefusalOfBytes.{eleven}
+
+-- ---- the date stands at the same place in every layout
+
+either-date : (x : Bool) (v w : Raw) (d : Date) → dateOf (v .read .entry) ≡ d → dateOf (w .read .entry) ≡ d → dateOf (pick x v w .read .entry) ≡ d
+either-date true v w d a b = a
+either-date false v w d a b = b
+
+raw-date : (kind n : ℕ) → dateOf (rawIn kind n .read .entry) ≡ visitFieldsIn n .entry .date
+unfolding rawIn baselineIn visitIn spareIn visitFieldsIn
+raw-date kind n =
+    either-date (eqb kind 1) (baselineIn n) _ (visitFieldsIn n .entry .date) refl
+    (either-date (eqb kind 2) (visitIn n) _ (visitFieldsIn n .entry .date) refl
+    (either-date (eqb kind 3) (spareIn (E.Therapy (dateIn n)) n) (spareIn (E.Death (dateIn n)) n) (visitFieldsIn n .entry .date) refl refl))
+
+module _ (s : List ℕ) (b : AreBytes s) (e : refusalOfBytes s ≡ 0) where
+  fields-there : visitFieldsOf s ≡ visitFieldsIn (bytesNumber s)
+  unfolding visitFieldsOf
+  fields-there = rw (eq-eqb (length s) recordLength (eleven s b e))
+
+  pub found-date : dateOf (recordOfBytes s .entry) ≡ visitFieldsOf s .entry .date
+  unfolding recordOfBytes
+  found-date = rw (eq-eqb (refusalOfBytes s) 0 e) (raw-date (kindIn (bytesNumber s)) (bytesNumber s)) ∙ ap (λ v. v .entry .date) (sym fields-there)
+
+-- ---- a visit
+
+-- the kind read by the visit's layout is the kind
+kind-of-fields : (n : ℕ) → visitFieldsIn n .isvisit ≡ eqb (kindIn n) 2
+unfolding visitFieldsIn
+kind-of-fields n = refl
+
+second-raw : (n : ℕ) → rawIn 2 n ≡ rawVisit (visitFieldsIn n)
+unfolding rawIn visitIn visitFieldsIn
+second-raw n = refl
+
+-- bytes whose fields are a visit's: their refusal and their record are those of the fields
+pub record IsVisit (s : List ℕ) (v : VisitFields) : Type 0 where
+  pub refusal : refusalOfBytes s ≡ first (refusalsOfRaw (rawVisit v))
+  pub found : refusalOfBytes s ≡ 0 → recordOfBytes s ≡ rawVisit v .read
+
+pub is-visit : (s : List ℕ) → visitFieldsOf s .isvisit ≡ true → IsVisit s (visitFieldsOf s)
+unfolding visitFieldsOf refusalsOfBytes refusalsOfNumber recordOfBytes
+is-visit s = go (eqb (length s) recordLength) refl
+  where
+    go : (x : Bool) → eqb (length s) recordLength ≡ x → visitFieldsOf s .isvisit ≡ true → IsVisit s (visitFieldsOf s)
+    go false l h = absurd (never (sym (rw l at h)))
+    go true l h =
+        let n = bytesNumber s in
+        let kind : kindIn n ≡ 2 = eqb-true (kindIn n) 2 (sym (kind-of-fields n) ∙ (rw l at h)) in
+        let raw = second-raw n in
+        rw l (record { refusal = rw (l, kind, raw); found = λ e. rw (eq-eqb (refusalOfBytes s) 0 e, kind, raw) })

@@ -1,0 +1,194 @@
+-- Refusals and ranges of opening, adding and reading, for every record value and every subject.
+-- Assumes nothing.
+use mathlib.Core.Path.{_≡_, refl, sym, _∙_, ap, subst}
+use mathlib.Core.Bool.{Bool, true, false, not}
+use mathlib.Core.List.{List, [], _∷_, _++_}
+use Prim.Native.Nat.{ℕ, _+_, _-_}
+use native.Mathlib.Omega.{arith}
+use lib.Dec.{leb, eqb}
+use borrow.Author.Tests.{eq-eqb, ne-eqb, eqb-true}
+use Rattle.laws.specs.Choice.{pick}
+use Rattle.laws.specs.Refusals.{_when_, first}
+use Rattle.records.specs.declared.Entry.{Entry}
+use Rattle.records.specs.declared.Entry.the-variants as E
+use Rattle.records.specs.declared.Record.{Record}
+use Rattle.records.specs.Refusals.{refusalsOf}
+use Rattle.records.proofs.NoOwnRefusal.{Passes, passes, after-own, none-after-own, small-baseline}
+use Rattle.codec.specs.Reading.{refusalsOfBytes, refusalOfBytes, recordOfBytes}
+use Rattle.codec.proofs.NoRefusalOfBytes.{after-reading, found-fine}
+use Rattle.response_rules.specs.Words.{Word}
+use Rattle.outcome_rules.specs.declared.MaybeDay.{MaybeDay}
+use Rattle.outcome_rules.specs.declared.MaybeDay.the-variants as M
+use Rattle.outcome_rules.specs.Values.{orDay1, Pfs, noDuration, forDays, event, censored, dayValue}
+use Rattle.outcome_rules.specs.Pfs.{twoMissed, earlyDeath, pfsOf}
+use Rattle.outcome_rules.specs.BestResponse.{isResponse}
+use Rattle.outcome_rules.specs.Duration.{durationOf}
+use Rattle.outcome_rules.specs.Adding.{notBaseline, refusalsOfOpening, refusalOfOpening}
+use Rattle.subject.specs.declared.Subject.{Subject}
+use Rattle.subject.specs.Opening.{openNumber, subjectOf, openedSubject, Opened}
+use Rattle.subject.specs.Range.{inRange}
+use Rattle.subject.specs.Laws.{Within, AbsentOrWithin, SubjectWithin}
+use Rattle.subject.proofs.RangeLaws.{subject-within, in-range}
+use Rattle.subject.proofs.OpeningInRange.{blank-outside, opening-within}
+use Rattle.adding.specs.declared.AddAnswer.{AddAnswer}
+use Rattle.adding.specs.Responses.{addResponses}
+use Rattle.adding.specs.Refusals.{addNumber}
+use Rattle.adding.specs.Promises.{refusalsOnDay, addedOnDay, Answered, refusalHeld, Added, refusalFromBytes, AddedBytes}
+use Rattle.adding.proofs.AddingKeepsRange.{adding-within}
+use Rattle.subject.specs.declared.OpenAnswer.{OpenAnswer}
+use Rattle.outcome.specs.declared.OutcomeAnswer.{OutcomeAnswer}
+use Rattle.outcome.specs.ReadingOutcome.{refused, outcome, readingValues, pfsHeld, bestHeld, outcomeOf, readingOf, Told}
+use Rattle.outcome.specs.Laws.{DurationWithin, TellsWithin, CallsInRange}
+
+-- ---- opening
+
+first-within : (e : Entry) (marks : List Bool) (sizes : List ℕ) → Passes (record { entry = e; sizes = sizes; marks = marks }) false false →
+    first (7 when notBaseline e ∷ []) ≡ 0 → SubjectWithin (subjectOf e marks sizes)
+first-within (E.Baseline b) marks sizes own q =
+    let small = small-baseline b marks sizes (own .limits) (own .zeros) in
+    opening-within b marks sizes (own .date) (small .0) (small .1)
+first-within (E.Visit v) marks sizes own q = absurd (let w : ⊥ = omega arith in w)
+first-within (E.Therapy d) marks sizes own q = absurd (let w : ⊥ = omega arith in w)
+first-within (E.Death d) marks sizes own q = absurd (let w : ⊥ = omega arith in w)
+
+opened-within : (r : Record) → refusalOfOpening r ≡ 0 → SubjectWithin (openedSubject r)
+unfolding openedSubject refusalsOfOpening
+opened-within r e =
+    let parts = none-after-own r _ .0 e in
+    rw (eq-eqb (refusalOfOpening r) 0 e) (first-within (r .entry) (r .marks) (r .sizes) (passes r false false (parts .0)) (parts .1))
+
+pub opened-in-range : {r : Record} {a : OpenAnswer} {s : Subject} → Opened r a s → openNumber a ≡ 0 → inRange s ≡ true
+opened-in-range {r} {a} {s} w z = rw (w .made) (in-range (openedSubject r) (opened-within r (sym (w .answer) ∙ z)))
+
+-- ---- adding
+
+added-in-range : {s t : Subject} {r : Record} {a : AddAnswer} → Added s r a t → inRange s ≡ true → inRange t ≡ true
+unfolding refusalHeld
+added-in-range {s} {t} {r} w h = rw (w .left) (go (eqb (refusalHeld s r) 0) refl)
+  where
+    go : (x : Bool) → eqb (refusalHeld s r) 0 ≡ x → inRange (pick x (addedOnDay s r) s) ≡ true
+    go false e = h
+    go true e =
+        let none : first (refusalsOf r ++ refusalsOnDay s r) ≡ 0 = rw h at (eqb-true (refusalHeld s r) 0 e) in
+        let within = subject-within s h in
+        in-range (addedOnDay s r)
+        (record {
+          enrolment = within .enrolment;
+          followup =
+              adding-within (s .enrolment) (s .followup) (r .entry) (r .marks) (r .sizes) (within .followup) (none-after-own r (refusalsOnDay s r) .0 none .1);
+        })
+
+-- ---- reading
+
+or-day-1-within : (m : MaybeDay) → AbsentOrWithin m → Within (orDay1 (dayValue m))
+or-day-1-within M.Absent w = (omega arith, omega arith)
+or-day-1-within (M.On d) w = w
+
+pfs-within : (g t : MaybeDay) (v : ℕ) (e : MaybeDay) → AbsentOrWithin g → AbsentOrWithin t → AbsentOrWithin e →
+    Within (pfsOf (dayValue g) (dayValue t) v (dayValue e) .day)
+pfs-within (M.On d) t v e wg wt we = go (twoMissed (d .0) v)
+  where
+    go : (x : Bool) → Within (pick x (censored (orDay1 (dayValue e))) (event (d .0)) .day)
+    go true = or-day-1-within e we
+    go false = wg
+pfs-within M.Absent (M.On d) v M.Absent wg wt we = go (leb (d .0 - 1) earlyDeath)
+  where
+    go : (x : Bool) → Within (pick x (event (d .0)) (censored 1) .day)
+    go true = wt
+    go false = (omega arith, omega arith)
+pfs-within M.Absent (M.On d) v (M.On e) wg wt we = go (twoMissed (d .0) v)
+  where
+    go : (x : Bool) → Within (pick x (censored (e .0)) (event (d .0)) .day)
+    go true = we
+    go false = wt
+pfs-within M.Absent M.Absent v e wg wt we = or-day-1-within e we
+
+duration-within : (best : Word) (f : MaybeDay) (p : Pfs) → AbsentOrWithin f → Within (p .day) → DurationWithin (durationOf best (dayValue f) p)
+duration-within best M.Absent p wf wp = tt
+duration-within best (M.On d) p wf wp = go (isResponse best)
+  where
+    go : (x : Bool) → DurationWithin (pick x (forDays (p .status) (p .day - d .0 + 1)) noDuration)
+    go true = (omega arith, omega (arith, wf, wp))
+    go false = tt
+
+pub reading-in-range : (s : Subject) → inRange s ≡ true → readingOf s ≡ outcome (outcomeOf s)
+unfolding readingOf
+reading-in-range s h = rw h
+
+tells-within : (s : Subject) → SubjectWithin s → TellsWithin (outcome (outcomeOf s))
+unfolding outcomeOf
+tells-within s w =
+    let f = s .followup in
+    let v = w .followup in
+    let p = pfs-within (f .event .progression) (f .deathday) (f .event .lastvisit .0) (f .event .lastevaluable) (v .event .progression) (v .deathday) (v .event .lastevaluable) in
+    (p, duration-within (bestHeld s) (f .counted .firstresponse) (pfsHeld s) (v .counted .firstresponse) p)
+
+-- what stands beside a refusal, by its number
+module _ {s t : Subject} {r : Record} {n : ℕ} {a : AddAnswer} (w : Answered s r n a t) (z : addNumber a ≡ 0 → ⊥) where
+  met : eqb n 0 ≡ false
+  met = ne-eqb n 0 (λ e. z (w .answer ∙ e))
+
+  kept : t ≡ s
+  kept = w .left ∙ rw met
+
+  no-responses : addResponses a ≡ []
+  no-responses = w .responses ∙ rw met
+
+not-added : {s t : Subject} {r : Record} {a : AddAnswer} → Added s r a t → (addNumber a ≡ 0 → ⊥) → t ≡ s
+not-added w z = kept w z
+
+from-bytes : {s t : Subject} {bytes : List ℕ} {a : AddAnswer} → AddedBytes s bytes a t → refusalOfBytes bytes ≡ 0 → Added s (recordOfBytes bytes) a t
+unfolding refusalHeld refusalFromBytes
+from-bytes {s} {t} {bytes} {a} w e =
+    let r = recordOfBytes bytes in
+    let behind = refusalsOnDay s r in
+    let read : first (refusalsOfBytes bytes ++ behind) ≡ first behind = after-reading bytes behind ∙ rw e in
+    let own : first (refusalsOf r ++ behind) ≡ first behind = after-own r behind ∙ rw (found-fine bytes (w .octets) e) in
+    let same : refusalFromBytes s bytes ≡ refusalHeld s r = ap (pick (not (inRange s)) 12) (read ∙ sym own) in
+    subst (λ (n : ℕ). Answered s (recordOfBytes bytes) n a t) same (w .added)
+
+not-from-bytes : {s t : Subject} {bytes : List ℕ} {a : AddAnswer} → AddedBytes s bytes a t → inRange s ≡ true → (refusalOfBytes bytes ≡ 0 → ⊥) →
+    (addNumber a ≡ refusalOfBytes bytes) × (addResponses a ≡ []) × (t ≡ s)
+unfolding refusalFromBytes
+not-from-bytes {s} {t} {bytes} {a} w h z =
+    let told : refusalFromBytes s bytes ≡ refusalOfBytes bytes =
+    rw h (after-reading bytes (refusalsOnDay s (recordOfBytes bytes)) ∙ rw (ne-eqb (refusalOfBytes bytes) 0 z)) in
+    let number = w .added .answer ∙ told in
+    let refused : addNumber a ≡ 0 → ⊥ = λ e. z (sym number ∙ e) in
+    (number, no-responses (w .added) refused, kept (w .added) refused)
+
+added-bytes-outside : {s t : Subject} {bytes : List ℕ} {a : AddAnswer} → AddedBytes s bytes a t → inRange s ≡ false →
+    (addNumber a ≡ 12) × (addResponses a ≡ []) × (t ≡ s)
+unfolding refusalFromBytes
+added-bytes-outside {s} {t} {bytes} {a} w h =
+    let told : refusalFromBytes s bytes ≡ 12 = rw h in
+    let twelve = w .added .answer ∙ told in
+    let refused : addNumber a ≡ 0 → ⊥ = λ z. let f : ⊥ = omega (arith, twelve, z) in f in
+    (twelve, no-responses (w .added) refused, kept (w .added) refused)
+
+added-outside : {s t : Subject} {r : Record} {a : AddAnswer} → Added s r a t → inRange s ≡ false → addNumber a ≡ 12
+unfolding refusalHeld
+added-outside w h = w .answer ∙ rw h
+
+told-outside : {s : Subject} {o : OutcomeAnswer} → Told s o → inRange s ≡ false → readingValues o ≡ refused 12
+unfolding readingOf
+told-outside w h = w .answer ∙ rw h
+
+pub calls-in-range : CallsInRange
+unfolding openedSubject
+calls-in-range =
+    record {
+      opened = opened-in-range;
+      notOpened = λ {r} w n. w .made ∙ rw (ne-eqb (refusalOfOpening r) 0 (λ e. n (w .answer ∙ e)));
+      added = added-in-range;
+      notAdded = not-added;
+      notAnswered = λ w z. no-responses w z;
+      fromBytes = from-bytes;
+      notFromBytes = not-from-bytes;
+      told = λ {s} w h. subst TellsWithin (sym (w .answer ∙ reading-in-range s h)) (tells-within s (subject-within s h));
+      addedOutside = added-outside;
+      toldOutside = told-outside;
+      addedBytesOutside = added-bytes-outside;
+      addedToBlank = λ w. let twelve = added-outside w blank-outside in (twelve, not-added w (λ z. let f : ⊥ = omega (arith, twelve, z) in f));
+      toldOfBlank = λ w. told-outside w blank-outside;
+    }

@@ -1,0 +1,49 @@
+-- The marks are exact in the order recorded: a run behind a list is a run in front of the list with the newest first, reversed.
+-- Assumes nothing.
+use mathlib.Core.Path.{_≡_, refl, sym, ap, _∙_}
+use mathlib.Core.Bool.{true}
+use mathlib.Core.List.{List, [], _∷_, _++_, reverse, reverse-append, reverse-reverse}
+use mathlib.Core.Logic.{_↔_, Iff·trans}
+use Rattle.laws.proofs.Tests.{both-true}
+use Rattle.outcome_rules.specs.Values.{Outcome}
+use Rattle.outcome_rules.specs.StudyRecords.{Baseline, StudyRecord, fieldsPass, allPass}
+use Rattle.outcome_rules.specs.LawfulLists.{Past, lawfulBehind}
+use Rattle.outcome_rules.specs.Settled.{outcome}
+use Rattle.outcome_rules.specs.MarksExact.{Lasts, LastsInOrder, EveryMarkExactInOrder}
+use Rattle.outcome_rules.proofs.MarksExact.{every-mark-exact}
+
+pass-append : (rs ss : List StudyRecord) → allPass rs ≡ true → allPass ss ≡ true → allPass (rs ++ ss) ≡ true
+pass-append [] ss e f = f
+pass-append (r ∷ rs) ss e f =
+    let parts = both-true (fieldsPass r) (allPass rs) e in
+    rw (parts .0) (pass-append rs ss (parts .1) f)
+
+pass-reverse : (rs : List StudyRecord) → allPass rs ≡ true → allPass (reverse rs) ≡ true
+pass-reverse [] e = refl
+pass-reverse (r ∷ rs) e =
+    let parts = both-true (fieldsPass r) (allPass rs) e in
+    ap allPass (reverse-append (r ∷ []) rs) ∙ pass-append (reverse rs) (r ∷ []) (pass-reverse rs (parts .1)) (rw (parts .0))
+
+lasts-in-order : {A : Type 0} (part : Outcome → A) (b : Baseline) (rs : List StudyRecord) → Lasts part b (reverse rs) ↔ LastsInOrder part b rs
+lasts-in-order part b rs = (
+  λ lasts run passes l.
+      ap (λ (p : Past). part (outcome b p)) (reverse-append rs run)
+      ∙ lasts (reverse run) (pass-reverse run passes) (ap (lawfulBehind b) (sym (reverse-append rs run)) ∙ l),
+  λ lasts run passes l.
+      ap (λ (p : Past). part (outcome b p)) (sym (turned run)) ∙ lasts (reverse run) (pass-reverse run passes) (ap (lawfulBehind b) (turned run) ∙ l),
+)
+  where
+    turned : (run : Past) → reverse (rs ++ reverse run) ≡ run ++ reverse rs
+    turned run = reverse-append rs (reverse run) ∙ ap (λ (x : Past). x ++ reverse rs) (reverse-reverse run)
+
+pub every-mark-exact-in-order : EveryMarkExactInOrder
+every-mark-exact-in-order =
+    record {
+      exact = λ b rs passes lawfully.
+          let marks = every-mark-exact .exact b (reverse rs) passes lawfully in
+          record {
+            pfs = Iff·trans (marks .pfs) (lasts-in-order (λ (o : Outcome). o .pfs) b rs);
+            best = Iff·trans (marks .best) (lasts-in-order (λ (o : Outcome). o .best) b rs);
+            duration = Iff·trans (marks .duration) (lasts-in-order (λ (o : Outcome). o .duration) b rs);
+          };
+    }

@@ -1,0 +1,20 @@
+-- Document 01, "Visit responses" and the change of "Change in size, file and listing": the answers at a visit, after what earlier visits leave and after a
+-- list of them.
+-- Assumes nothing.
+use mathlib.Core.List.{List}
+use Rattle.response_rules.specs.Words.{Word, statusWord}
+use Rattle.response_rules.specs.Inputs.{Visit}
+use Rattle.response_rules.specs.TargetAnswer.{targetAnswer}
+use Rattle.response_rules.specs.Nadir.{leftBy}
+use Rattle.response_rules.specs.OverallAnswer.{overallBy}
+use Rattle.response_rules.specs.declared.BaselineDisease.{BaselineDisease}
+use Rattle.response_rules.specs.declared.Earlier.{Earlier}
+
+unfoldable pub overallAnswer : BaselineDisease → Earlier → Visit → Word
+overallAnswer b earlier v = overallBy (b .assessed) (v .newLesion) (targetAnswer b earlier v) (statusWord (v .status))
+
+abbrev pub visitTarget : BaselineDisease → List Visit → Visit → Word
+visitTarget b earlier v = targetAnswer b (leftBy b earlier) v
+
+abbrev pub visitOverall : BaselineDisease → List Visit → Visit → Word
+visitOverall b earlier v = overallAnswer b (leftBy b earlier) v

@@ -1,0 +1,47 @@
+-- The subject opened is in range, and the blank is not.
+-- Assumes nothing.
+use mathlib.Core.Path.{_≡_, refl}
+use mathlib.Core.Bool.{Bool, true, false}
+use mathlib.Core.List.{List}
+use Prim.Native.Nat.{ℕ, zero, suc, _+_, _*_, _≤_, _<_}
+use native.Mathlib.Omega.{arith}
+use lib.Dec.{ltb}
+use lib.ListN.{getD}
+use Rattle.laws.specs.Choice.{pick}
+use Rattle.dates.specs.Calendar.{dateExists}
+use Rattle.records.specs.declared.BaselineEntry.{BaselineEntry}
+use Rattle.records.specs.Refusals.{mostTargets, largestSize}
+use Rattle.response_rules.specs.SumOfDiameters.{sumWhere, baselineSum}
+use Rattle.subject.specs.Range.{enrolmentInRange, inRange}
+use Rattle.subject.specs.Opening.{firstSubject, blank}
+use Rattle.subject.specs.Laws.{SubjectWithin}
+
+pub blank-outside : inRange blank ≡ false
+unfolding enrolmentInRange inRange blank dateExists
+blank-outside = refl
+
+sum-most : (marked : ℕ → Bool) (sizes : List ℕ) (n : ℕ) → ((k : ℕ) → k < n → getD sizes k 0 ≤ largestSize) → sumWhere marked sizes n ≤ n * largestSize
+sum-most marked sizes zero small = omega arith
+sum-most marked sizes (suc n) small = go (marked n) (sum-most marked sizes n (λ k h. small k (omega arith))) (small n (omega arith))
+  where
+    go : (x : Bool) → sumWhere marked sizes n ≤ n * largestSize → getD sizes n 0 ≤ largestSize →
+        sumWhere marked sizes n + pick x (getD sizes n 0) 0 ≤ suc n * largestSize
+    go true h k = omega arith
+    go false h k = omega arith
+
+pub opening-within : (b : BaselineEntry) (nodes : List Bool) (sizes : List ℕ) → dateExists (b .date) ≡ true → b .count ≤ mostTargets →
+    ((k : ℕ) → k < mostTargets → getD sizes k 0 ≤ largestSize) → SubjectWithin (firstSubject b nodes sizes)
+unfolding firstSubject baselineSum
+opening-within b nodes sizes date count small =
+    let sum = sum-most (λ (i : ℕ). ltb i (b .count)) sizes mostTargets small in
+    record {
+      enrolment = record { randomisation = date; count = count; sum = sum };
+      followup =
+          record {
+            nadir = sum;
+            latestday = (omega arith, omega arith);
+            deathday = tt;
+            event = record { lastvisit = (omega arith, omega arith); progression = tt; lastevaluable = tt };
+            counted = record { firstresponse = tt; crstart = tt };
+          };
+    }
