@@ -22,7 +22,7 @@ use Rattle.records.specs.declared.Entry.the-variants as E
 use Rattle.records.specs.declared.Record.{Record}
 use Rattle.records.specs.declared.CheckAnswer.{CheckAnswer}
 use Rattle.records.specs.Entries.{dateOf}
-use Rattle.records.specs.Refusals.{checkNumber, refusalsOfFields, ChecksVisit, refusalsOfRead, refusalOf}
+use Rattle.records.specs.Refusals.{checkNumber, refusalsOfFields, ChecksVisit, refusalsOfRead, refusalOfRecord}
 use Rattle.records.proofs.NoOwnRefusal.{after-own}
 use Rattle.codec.specs.declared.VisitFields.{VisitFields}
 use Rattle.codec.specs.Reading.{rawVisit, refusalsOfRaw, refusalsOfBytes, refusalOfBytes, recordOfBytes, visitFieldsOf, ReadsVisit}
@@ -34,11 +34,11 @@ use Rattle.adding.specs.declared.AddAnswer.{AddAnswer}
 use Rattle.adding.specs.declared.AddResult.{AddResult}
 use Rattle.adding.specs.declared.Dated.{Dated}
 use Rattle.adding.specs.declared.Step.{Step}
-use Rattle.adding.specs.Added.{heldDay, entryAdded}
-use Rattle.adding.specs.Responses.{addResponses, linesOn}
-use Rattle.adding.specs.Refusals.{addNumber, refusalsOn}
-use Rattle.adding.specs.Promises.{dayOn, refusalsOnDay, Answered, refusalHeld, Added, refusalFromBytes, AddedBytes}
-use Rattle.adding.specs.Stepping.{DatedAs, DatedFrom, firstRefusal, Steps}
+use Rattle.adding.specs.OneRecordMore.{heldDay, entryAdded}
+use Rattle.adding.specs.Responses.{addResponses, linesHeld}
+use Rattle.adding.specs.Refusals.{addNumber, refusalsOfEntryHeld}
+use Rattle.adding.specs.Promises.{studyDayHeld, refusalsOfRecordHeld, Answered, refusalOfAddingHeld, Adds, refusalOfAddingBytesHeld, AddsBytes}
+use Rattle.adding.specs.Stepping.{DatedAs, DatedFrom, refusalOfStepHeld, Steps}
 
 -- ---- a date that was counted
 
@@ -112,7 +112,7 @@ module _ (randomisation : Date) (bytes : List ℕ) (v : VisitFields) (counted : 
   other-dated q = record { own = λ e. q .1; day = λ e. q .0 ∙ on-the-day e; found = λ e. q .2; octets = w .octets }
 
 pub value-dated : (randomisation date : Date) (r : Record) (counted : StudyDayAnswer) (day : StudyDay) (own : AddAnswer) (c : CheckAnswer) →
-    date ≡ dateOf (r .entry) → studyDayValues counted ≡ studyDayOf date randomisation → day .0 ≡ studyDayValues counted .day → checkNumber c ≡ refusalOf r →
+    date ≡ dateOf (r .entry) → studyDayValues counted ≡ studyDayOf date randomisation → day .0 ≡ studyDayValues counted .day → checkNumber c ≡ refusalOfRecord r →
     addNumber own ≡ checkNumber c → DatedAs randomisation r (record { day = day; own = own; found = r })
 value-dated randomisation date r counted day own c e cq dq rq oq =
     record {
@@ -134,9 +134,9 @@ module _ (s : Subject) (r : Record) (d : Dated) (x : Step) (y : AddResult) (insi
     (q : (y .answer ≡ x .answer) × (y .subject ≡ record { enrolment = s .enrolment; followup = x .followup })) where
   -- the step's number
   abbrev told : ℕ
-  told = firstRefusal inside (addNumber (d .own)) (first (refusalsOn (s .enrolment) (s .followup) (d .day) (d .found .entry) (d .found .marks)))
+  told = refusalOfStepHeld inside (addNumber (d .own)) (first (refusalsOfEntryHeld (s .enrolment) (s .followup) (d .day) (d .found .entry) (d .found .marks)))
 
-  answered : (n : ℕ) → told ≡ n → (n ≡ 0 → (d .day ≡ dayOn s r) × (d .found ≡ r)) → Answered s r n (y .answer) (y .subject)
+  answered : (n : ℕ) → told ≡ n → (n ≡ 0 → (d .day ≡ studyDayHeld s r) × (d .found ≡ r)) → Answered s r n (y .answer) (y .subject)
   answered n e same = go (eqb n 0) refl
     where
       go : (b : Bool) → eqb n 0 ≡ b → Answered s r n (y .answer) (y .subject)
@@ -147,7 +147,7 @@ module _ (s : Subject) (r : Record) (d : Dated) (x : Step) (y : AddResult) (insi
             answer = ap addNumber (q .0) ∙ w .answer ∙ e;
             responses =
                 ap addResponses (q .0) ∙ w .responses
-                ∙ rw (none, z) (λ i. linesOn (s .enrolment) (s .followup) (k .0 i) (k .1 i .entry) (k .1 i .marks) (k .1 i .sizes));
+                ∙ rw (none, z) (λ i. linesHeld (s .enrolment) (s .followup) (k .0 i) (k .1 i .entry) (k .1 i .marks) (k .1 i .sizes));
             left =
                 q .1
                 ∙ ap (λ f. record { enrolment = s .enrolment; followup = f }) (w .left)
@@ -166,12 +166,12 @@ module _ (s : Subject) (r : Record) (d : Dated) (x : Step) (y : AddResult) (insi
   unfolding inRange
   inside-is = iq
 
-  pub value-added : DatedAs (s .enrolment .randomisation) r d → Added s r (y .answer) (y .subject)
-  unfolding refusalHeld
+  pub value-added : DatedAs (s .enrolment .randomisation) r d → Adds s r (y .answer) (y .subject)
+  unfolding refusalOfAddingHeld
   value-added v =
-      answered (refusalHeld s r)
-      ((λ i. firstRefusal (inside-is i) (v .own i) (first (refusalsOn (s .enrolment) (s .followup) (v .day i) (v .found i .entry) (v .found i .marks))))
-      ∙ twelve-first (inRange s) _ ∙ ap (pick (not (inRange s)) 12) (sym (after-own r (refusalsOnDay s r))))
+      answered (refusalOfAddingHeld s r)
+      ((λ i. refusalOfStepHeld (inside-is i) (v .own i) (first (refusalsOfEntryHeld (s .enrolment) (s .followup) (v .day i) (v .found i .entry) (v .found i .marks))))
+      ∙ twelve-first (inRange s) _ ∙ ap (pick (not (inRange s)) 12) (sym (after-own r (refusalsOfRecordHeld s r))))
       (λ z. (v .day, v .found))
 
 -- from bytes
@@ -183,43 +183,43 @@ module _ (s : Subject) (bytes : List ℕ) (d : Dated) (x : Step) (y : AddResult)
   r = recordOfBytes bytes
 
   -- where no refusal meets the bytes, the record and its day are theirs
-  same : refusalOfBytes bytes ≡ 0 → (d .day ≡ dayOn s r) × (d .found ≡ r)
+  same : refusalOfBytes bytes ≡ 0 → (d .day ≡ studyDayHeld s r) × (d .found ≡ r)
   same e = (v .day e, v .found e)
 
   -- 8 to 11 of the record found, on its day
   abbrev behind : ℕ
-  behind = first (refusalsOn (s .enrolment) (s .followup) (d .day) (d .found .entry) (d .found .marks))
+  behind = first (refusalsOfEntryHeld (s .enrolment) (s .followup) (d .day) (d .found .entry) (d .found .marks))
 
-  own-then : (own : ℕ) → own ≡ refusalOfBytes bytes → pick (eqb own 0) behind own ≡ pick (eqb (refusalOfBytes bytes) 0) (first (refusalsOnDay s r)) (refusalOfBytes bytes)
+  own-then : (own : ℕ) → own ≡ refusalOfBytes bytes → pick (eqb own 0) behind own ≡ pick (eqb (refusalOfBytes bytes) 0) (first (refusalsOfRecordHeld s r)) (refusalOfBytes bytes)
   own-then own e = rw e (go (eqb (refusalOfBytes bytes) 0) refl)
     where
-      go : (b : Bool) → eqb (refusalOfBytes bytes) 0 ≡ b → pick b behind (refusalOfBytes bytes) ≡ pick b (first (refusalsOnDay s r)) (refusalOfBytes bytes)
-      go true z = let k = same (eqb-true (refusalOfBytes bytes) 0 z) in λ i. first (refusalsOn (s .enrolment) (s .followup) (k .0 i) (k .1 i .entry) (k .1 i .marks))
+      go : (b : Bool) → eqb (refusalOfBytes bytes) 0 ≡ b → pick b behind (refusalOfBytes bytes) ≡ pick b (first (refusalsOfRecordHeld s r)) (refusalOfBytes bytes)
+      go true z = let k = same (eqb-true (refusalOfBytes bytes) 0 z) in λ i. first (refusalsOfEntryHeld (s .enrolment) (s .followup) (k .0 i) (k .1 i .entry) (k .1 i .marks))
       go false z = refl
 
-  told-from : (b : Bool) → inside ≡ b → firstRefusal b (addNumber (d .own)) behind ≡ firstRefusal b (refusalOfBytes bytes) (first (refusalsOnDay s r))
+  told-from : (b : Bool) → inside ≡ b → refusalOfStepHeld b (addNumber (d .own)) behind ≡ refusalOfStepHeld b (refusalOfBytes bytes) (first (refusalsOfRecordHeld s r))
   unfolding enrolmentInRange
   told-from false h = refl
   told-from true h =
       let range = both-true (enrolmentInRange (s .enrolment)) (followUpInRange (s .followup)) (sym iq ∙ h) in
       own-then (addNumber (d .own)) (v .own (both-true (dateExists (s .enrolment .randomisation)) _ (range .0) .0))
 
-  number : firstRefusal inside (addNumber (d .own)) behind ≡ refusalFromBytes s bytes
-  unfolding refusalFromBytes inRange
+  number : refusalOfStepHeld inside (addNumber (d .own)) behind ≡ refusalOfAddingBytesHeld s bytes
+  unfolding refusalOfAddingBytesHeld inRange
   number =
       told-from inside refl
-      ∙ ap (λ (b : Bool). firstRefusal b (refusalOfBytes bytes) (first (refusalsOnDay s r))) iq
+      ∙ ap (λ (b : Bool). refusalOfStepHeld b (refusalOfBytes bytes) (first (refusalsOfRecordHeld s r))) iq
       ∙ twelve-first (inRange s) _
-      ∙ ap (pick (not (inRange s)) 12) (sym (after-reading bytes (refusalsOnDay s r)))
+      ∙ ap (pick (not (inRange s)) 12) (sym (after-reading bytes (refusalsOfRecordHeld s r)))
 
   -- no refusal from bytes, so none of the bytes
-  none-of-bytes : refusalFromBytes s bytes ≡ 0 → refusalOfBytes bytes ≡ 0
-  unfolding refusalFromBytes
+  none-of-bytes : refusalOfAddingBytesHeld s bytes ≡ 0 → refusalOfBytes bytes ≡ 0
+  unfolding refusalOfAddingBytesHeld
   none-of-bytes z = go (inRange s) z
     where
-      go : (b : Bool) → first (12 when not b ∷ refusalsOfBytes bytes ++ refusalsOnDay s r) ≡ 0 → refusalOfBytes bytes ≡ 0
-      go true e = none-of-both (refusalsOfBytes bytes) (refusalsOnDay s r) (bytes-numbered bytes) .0 e .0
+      go : (b : Bool) → first (12 when not b ∷ refusalsOfBytes bytes ++ refusalsOfRecordHeld s r) ≡ 0 → refusalOfBytes bytes ≡ 0
+      go true e = none-of-both (refusalsOfBytes bytes) (refusalsOfRecordHeld s r) (bytes-numbered bytes) .0 e .0
       go false e = absurd (let w : ⊥ = omega arith in w)
 
-  pub bytes-added : AddedBytes s bytes (y .answer) (y .subject)
-  bytes-added = record { added = answered s r d x y inside iq w q (refusalFromBytes s bytes) number (λ z. same (none-of-bytes z)); octets = v .octets }
+  pub bytes-added : AddsBytes s bytes (y .answer) (y .subject)
+  bytes-added = record { added = answered s r d x y inside iq w q (refusalOfAddingBytesHeld s bytes) number (λ z. same (none-of-bytes z)); octets = v .octets }

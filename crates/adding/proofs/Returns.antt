@@ -31,16 +31,16 @@ use Rattle.subject.specs.declared.CountingVisits.{CountingVisits}
 use Rattle.subject.specs.declared.EventDays.{EventDays}
 use Rattle.subject.specs.declared.Enrolment.{Enrolment}
 use Rattle.subject.specs.declared.FollowUp.{FollowUp}
-use Rattle.subject.specs.OneVisitMore.{eventAfter, countedAfter}
+use Rattle.subject.specs.OneVisitMore.{eventAfter, countingAfter}
 use Rattle.adding.specs.declared.AddAnswer.{AddAnswer}
 use Rattle.adding.specs.declared.AddAnswer.the-variants as A
 use Rattle.adding.specs.declared.Dated.{Dated}
 use Rattle.adding.specs.declared.Step.{Step}
 use Rattle.adding.specs.declared.VisitResponse.{VisitResponse}
-use Rattle.adding.specs.Added.{answerOn, judgedAs, judgedAdded, visitAdded, therapyAdded, deathAdded}
+use Rattle.adding.specs.OneRecordMore.{overallHeld, judgedAs, judgedAdded, visitAdded, therapyAdded, deathAdded}
 use Rattle.adding.specs.Responses.{responseValues, addResponses}
-use Rattle.adding.specs.Refusals.{addNumber, refusalsBy, refusalsOn}
-use Rattle.adding.specs.Stepping.{StepsBy, firstRefusal, Steps, StepsLater}
+use Rattle.adding.specs.Refusals.{addNumber, refusalsOfLaterHeld, refusalsOfEntryHeld}
+use Rattle.adding.specs.Stepping.{StepsBy, refusalOfStepHeld, Steps, StepsLater}
 
 -- ---- whether a visit fits
 
@@ -85,34 +85,34 @@ module _ (x y a : Bool) (p : a ≡ x) where
 
 -- ---- the follow-up after a visit
 
-pub counted-or-closed : (closed : Bool) (c r : CountingVisits) (j : Judged) → closed ≡ false → r ≡ countedAfter c j → r ≡ pick closed c (countedAfter c j)
+pub counted-or-closed : (closed : Bool) (c r : CountingVisits) (j : Judged) → closed ≡ false → r ≡ countingAfter c j → r ≡ pick closed c (countingAfter c j)
 counted-or-closed closed c r j q h = h ∙ rw q
 
 pub visit-made : (f : FollowUp) (day : StudyDay) (a : VisitAnswer) (x : Bool) (e : EventDays) (c : CountingVisits) →
     x ≡ isRecorded (dayValue (f .event .progression)) → e ≡ eventAfter (f .event) (judgedAs day a) →
-    c ≡ pick (f .treated || x) (f .counted) (countedAfter (f .counted) (judgedAs day a)) →
-    record { earlier = a .after; latestday = day; treated = f .treated; deathday = f .deathday; event = e; counted = c }
+    c ≡ pick (f .therapyrecorded || x) (f .counting) (countingAfter (f .counting) (judgedAs day a)) →
+    record { earlier = a .after; latestday = day; therapyrecorded = f .therapyrecorded; deathday = f .deathday; event = e; counting = c }
     ≡ judgedAdded f (a .after) (judgedAs day a)
 visit-made f day a x e c p q r = rw (q, r, p)
 
 -- ---- the first refusal
 
 module _ (inside : Bool) (own behind : AddAnswer) where
-  pub outside-first : not inside ≡ true → 12 ≡ firstRefusal inside (addNumber own) (addNumber behind)
+  pub outside-first : not inside ≡ true → 12 ≡ refusalOfStepHeld inside (addNumber own) (addNumber behind)
   outside-first h = rw (not-true inside h)
 
   module _ (h : not inside ≡ false) (n : ℕ) (q : n ≡ addNumber own) where
-    pub own-first : (n ≡ 0 → ⊥) → addNumber own ≡ firstRefusal inside (addNumber own) (addNumber behind)
+    pub own-first : (n ≡ 0 → ⊥) → addNumber own ≡ refusalOfStepHeld inside (addNumber own) (addNumber behind)
     own-first z = rw (not-false inside h, ne-eqb (addNumber own) 0 (λ e. z (q ∙ e)))
 
-    pub behind-first : n ≡ 0 → addNumber behind ≡ firstRefusal inside (addNumber own) (addNumber behind)
+    pub behind-first : n ≡ 0 → addNumber behind ≡ refusalOfStepHeld inside (addNumber own) (addNumber behind)
     behind-first z = let none : addNumber own ≡ 0 = sym q ∙ z in rw (not-false inside h, none)
 
 pub refusal-as-tested : (e : Enrolment) (f : FollowUp) (day : StudyDay) (v : VisitEntry) (marks : List Bool) (fit : Bool) (a : AddAnswer) →
     fit ≡ fitsBy (e .disease .count) (e .nontarget) (v .status) marks →
-    addNumber a ≡ first (refusalsBy f (leb (day .0) (f .latestday .0)) (not fit)) →
-    addNumber a ≡ first (refusalsOn e f day (E.Visit v) marks)
-unfolding refusalsOn
+    addNumber a ≡ first (refusalsOfLaterHeld f (leb (day .0) (f .latestday .0)) (not fit)) →
+    addNumber a ≡ first (refusalsOfEntryHeld e f day (E.Visit v) marks)
+unfolding refusalsOfEntryHeld
 refusal-as-tested e f day v marks fit a fq aq = aq ∙ rw fq
 
 -- ---- a step
@@ -136,7 +136,7 @@ pub visit-placed : (e : Enrolment) (f next : FollowUp) (day : StudyDay) (v : Vis
     responseValues r
     ≡ record { day = day .0; target = targetWord (a .target); nontarget = statusWord (v .status); overall = overallWord (a .overall); change = changeValues (a .change) } →
     StepsBy e f day (E.Visit v) measured sizes 0 (record { followup = next; answer = A.Judged r })
-unfolding visitAdded answerOn
+unfolding visitAdded overallHeld
 visit-placed e f next day v measured sizes a r w n l =
     record {
       answer = refl;
@@ -152,10 +152,10 @@ refused-by a n m p k q =
     record { answer = ap addNumber (q .0) ∙ p; responses = ap addResponses (q .0) ∙ no-responses a n (p ∙ k) ∙ rw met; left = q .1 ∙ rw met }
 
 module _ (inside : Bool) (e : Enrolment) (f : FollowUp) (d : Dated) (v : VisitEntry) (behind refusal : AddAnswer) (x : Step) (n : ℕ)
-    (bq : addNumber behind ≡ first (refusalsOn e f (d .day) (E.Visit v) (d .found .marks)))
-    (rq : addNumber refusal ≡ firstRefusal inside (addNumber (d .own)) (addNumber behind)) (nq : n ≡ addNumber refusal) where
-  number : addNumber refusal ≡ firstRefusal inside (addNumber (d .own)) (first (refusalsOn e f (d .day) (E.Visit v) (d .found .marks)))
-  number = rq ∙ ap (firstRefusal inside (addNumber (d .own))) bq
+    (bq : addNumber behind ≡ first (refusalsOfEntryHeld e f (d .day) (E.Visit v) (d .found .marks)))
+    (rq : addNumber refusal ≡ refusalOfStepHeld inside (addNumber (d .own)) (addNumber behind)) (nq : n ≡ addNumber refusal) where
+  number : addNumber refusal ≡ refusalOfStepHeld inside (addNumber (d .own)) (first (refusalsOfEntryHeld e f (d .day) (E.Visit v) (d .found .marks)))
+  number = rq ∙ ap (refusalOfStepHeld inside (addNumber (d .own))) bq
 
   pub visit-refused : (n ≡ 0 → ⊥) → (x .answer ≡ refusal) × (x .followup ≡ f) →
       Steps inside e f (d .day) (addNumber (d .own)) (E.Visit v) (d .found .marks) (d .found .sizes) x
@@ -167,10 +167,10 @@ module _ (inside : Bool) (e : Enrolment) (f : FollowUp) (d : Dated) (v : VisitEn
 
 -- a therapy or a death
 module _ (inside : Bool) (f : FollowUp) (d : Dated) (next : FollowUp) (behind refusal : AddAnswer) (n : ℕ)
-    (bq : addNumber behind ≡ first (refusalsBy f (ltb (d .day .0) (f .latestday .0)) false))
-    (rq : addNumber refusal ≡ firstRefusal inside (addNumber (d .own)) (addNumber behind)) (nq : n ≡ addNumber refusal) where
-  later-number : addNumber refusal ≡ firstRefusal inside (addNumber (d .own)) (first (refusalsBy f (ltb (d .day .0) (f .latestday .0)) false))
-  later-number = rq ∙ ap (firstRefusal inside (addNumber (d .own))) bq
+    (bq : addNumber behind ≡ first (refusalsOfLaterHeld f (ltb (d .day .0) (f .latestday .0)) false))
+    (rq : addNumber refusal ≡ refusalOfStepHeld inside (addNumber (d .own)) (addNumber behind)) (nq : n ≡ addNumber refusal) where
+  later-number : addNumber refusal ≡ refusalOfStepHeld inside (addNumber (d .own)) (first (refusalsOfLaterHeld f (ltb (d .day .0) (f .latestday .0)) false))
+  later-number = rq ∙ ap (refusalOfStepHeld inside (addNumber (d .own))) bq
 
   pub later-refused : (x : Step) → (n ≡ 0 → ⊥) → (x .answer ≡ refusal) × (x .followup ≡ f) → StepsLater inside f d next x
   later-refused x z q =
@@ -186,12 +186,12 @@ module _ (inside : Bool) (e : Enrolment) (f : FollowUp) (d : Dated) (r : Entry) 
   abbrev Stepped : Type 0
   Stepped = Steps inside e f (d .day) (addNumber (d .own)) r (d .found .marks) (d .found .sizes) x
 
-  pub second-baseline : (b : BaselineEntry) (refusal : AddAnswer) → r ≡ E.Baseline b → addNumber refusal ≡ firstRefusal inside (addNumber (d .own)) 8 →
+  pub second-baseline : (b : BaselineEntry) (refusal : AddAnswer) → r ≡ E.Baseline b → addNumber refusal ≡ refusalOfStepHeld inside (addNumber (d .own)) 8 →
       (x .answer ≡ refusal) × (x .followup ≡ f) → Stepped
-  unfolding refusalsOn
-  second-baseline b refusal k rq q = rw k (refused-by refusal (firstRefusal inside (addNumber (d .own)) 8 - 1) _ rq more q)
+  unfolding refusalsOfEntryHeld
+  second-baseline b refusal k rq q = rw k (refused-by refusal (refusalOfStepHeld inside (addNumber (d .own)) 8 - 1) _ rq more q)
     where
-      go : (inside : Bool) (n : ℕ) → firstRefusal inside n 8 ≡ suc (firstRefusal inside n 8 - 1)
+      go : (inside : Bool) (n : ℕ) → refusalOfStepHeld inside n 8 ≡ suc (refusalOfStepHeld inside n 8 - 1)
       go false n = refl
       go true n = more-than (eqb n 0) refl
         where
@@ -199,7 +199,7 @@ module _ (inside : Bool) (e : Enrolment) (f : FollowUp) (d : Dated) (r : Entry) 
           more-than true h = refl
           more-than false h = let w = eqb-false n 0 h in omega (arith, w)
 
-      more : firstRefusal inside (addNumber (d .own)) 8 ≡ suc (firstRefusal inside (addNumber (d .own)) 8 - 1)
+      more : refusalOfStepHeld inside (addNumber (d .own)) 8 ≡ suc (refusalOfStepHeld inside (addNumber (d .own)) 8 - 1)
       more = go inside (addNumber (d .own))
 
   pub of-visit : (v : VisitEntry) → r ≡ E.Visit v → Steps inside e f (d .day) (addNumber (d .own)) (E.Visit v) (d .found .marks) (d .found .sizes) x → Stepped
@@ -207,16 +207,16 @@ module _ (inside : Bool) (e : Enrolment) (f : FollowUp) (d : Dated) (r : Entry) 
 
   module _ (date : Date) (next : FollowUp) (w : StepsLater inside f d next x) where
     abbrev refusal : ℕ
-    refusal = firstRefusal inside (addNumber (d .own)) (first (refusalsBy f (ltb (d .day .0) (f .latestday .0)) false))
+    refusal = refusalOfStepHeld inside (addNumber (d .own)) (first (refusalsOfLaterHeld f (ltb (d .day .0) (f .latestday .0)) false))
 
     later-lines : (z : Bool) → _≡_ {A = List VisitLine} [] (pick z [] [])
     later-lines true = refl
     later-lines false = refl
 
     pub of-therapy : r ≡ E.Therapy date → next ≡ therapyAdded f (d .day) → Stepped
-    unfolding refusalsOn
+    unfolding refusalsOfEntryHeld
     of-therapy k q = rw k (record { answer = w .answer; responses = w .responses ∙ later-lines (eqb refusal 0); left = w .left ∙ rw (q, w .answer) })
 
     pub of-death : r ≡ E.Death date → next ≡ deathAdded f (d .day) → Stepped
-    unfolding refusalsOn
+    unfolding refusalsOfEntryHeld
     of-death k q = rw k (record { answer = w .answer; responses = w .responses ∙ later-lines (eqb refusal 0); left = w .left ∙ rw (q, w .answer) })

@@ -4,28 +4,28 @@
 use mathlib.Core.Path.{refl}
 use Rattle.dates.specs.Calendar.{leapYear, daysInMonth, dateExists, daysOfYears, daysOfMonths, dayNumber}
 use Rattle.dates.specs.Answers.{studyDayOf}
-use Rattle.records.specs.Refusals.{wrongSize, largeMeasured, setBeyond, sizedUnmeasured, withoutDisease, outsideLimits, notZero, refusalsOfRead}
+use Rattle.records.specs.Refusals.{sizeOutsideLimits, measuredOutsideLimits, notZeroBeyondCount, notZeroUnmeasured, withoutDisease, outsideLimits, notZero, refusalsOfRead}
 use Rattle.codec.specs.Bytes.{bytesNumber}
-use Rattle.codec.specs.Reading.{statusFrom, baselineIn, visitIn, spareIn, rawIn, refusalsOfNumber, refusalsOfBytes, recordOfBytes}
-use Rattle.response_rules.specs.SumOfDiameters.{measuredSum, allMeasured}
-use Rattle.response_rules.specs.TargetAnswer.{allGone, grown, shrunk, targetAnswer}
+use Rattle.codec.specs.Reading.{statusFrom, baselineIn, visitIn, spareIn, rawIn, refusalsOfRecordNumber, refusalsOfBytes, recordOfBytes}
+use Rattle.response_rules.specs.SumOfDiameters.{sumOfDiameters, allMeasured}
+use Rattle.response_rules.specs.TargetAnswer.{allDisappeared, progressionFromNadir, partialResponse, targetAnswer}
 use Rattle.response_rules.specs.Nadir.{afterVisit}
 use Rattle.response_rules.specs.OverallAnswer.{overallBy}
 use Rattle.response_rules.specs.VisitAnswers.{overallAnswer}
 use Rattle.response_rules.specs.Change.{changeBetween, changeOf}
 use Rattle.outcome_rules.specs.LawfulLists.{measuredBeyond, fitsBy}
 use Rattle.subject.specs.Range.{enrolmentInRange, followUpInRange, inRange}
-use Rattle.subject.specs.OneVisitMore.{eventAfter, countedAfter}
-use Rattle.adding.specs.Added.{answerOn, visitAdded, therapyAdded, deathAdded}
-use Rattle.adding.specs.Refusals.{refusalsOn}
-use Rattle.adding.specs.Promises.{refusalHeld, refusalFromBytes}
+use Rattle.subject.specs.OneVisitMore.{eventAfter, countingAfter}
+use Rattle.adding.specs.OneRecordMore.{overallHeld, visitAdded, therapyAdded, deathAdded}
+use Rattle.adding.specs.Refusals.{refusalsOfEntryHeld}
+use Rattle.adding.specs.Promises.{refusalOfAddingHeld, refusalOfAddingBytesHeld}
 use Rattle.adding.specs.Examples.{NumbersOfCases, FirstRefusals, AddedAtTheEdges, LinesAtTheEdges, OrderByValue, OrderFromBytes, BesideNumbers}
 
 pub numbers-of-cases : NumbersOfCases
 numbers-of-cases = record { additions = refl; responses = refl }
 
 pub first-refusals : FirstRefusals
-unfolding leapYear daysInMonth dateExists daysOfYears daysOfMonths dayNumber studyDayOf measuredBeyond fitsBy refusalsOn
+unfolding leapYear daysInMonth dateExists daysOfYears daysOfMonths dayNumber studyDayOf measuredBeyond fitsBy refusalsOfEntryHeld
 first-refusals =
     record {
       fitting = refl;
@@ -44,7 +44,7 @@ first-refusals =
     }
 
 pub added-at-the-edges : AddedAtTheEdges
-unfolding leapYear daysInMonth dateExists daysOfYears daysOfMonths dayNumber studyDayOf measuredSum allMeasured allGone grown shrunk targetAnswer afterVisit overallBy overallAnswer eventAfter countedAfter answerOn visitAdded therapyAdded deathAdded
+unfolding leapYear daysInMonth dateExists daysOfYears daysOfMonths dayNumber studyDayOf sumOfDiameters allMeasured allDisappeared progressionFromNadir partialResponse targetAnswer afterVisit overallBy overallAnswer eventAfter countingAfter overallHeld visitAdded therapyAdded deathAdded
 added-at-the-edges =
     record {
       visit = refl;
@@ -56,15 +56,15 @@ added-at-the-edges =
     }
 
 pub lines-at-the-edges : LinesAtTheEdges
-unfolding leapYear daysInMonth dateExists daysOfYears daysOfMonths dayNumber studyDayOf measuredSum allMeasured allGone grown shrunk targetAnswer overallBy overallAnswer changeBetween changeOf answerOn
+unfolding leapYear daysInMonth dateExists daysOfYears daysOfMonths dayNumber studyDayOf sumOfDiameters allMeasured allDisappeared progressionFromNadir partialResponse targetAnswer overallBy overallAnswer changeBetween changeOf overallHeld
 lines-at-the-edges = record { visit = refl; therapy = refl; death = refl; afterProgression = refl; missing = refl; newLesion = refl }
 
 pub order-by-value : OrderByValue
-unfolding leapYear daysInMonth dateExists daysOfYears daysOfMonths dayNumber studyDayOf wrongSize largeMeasured setBeyond sizedUnmeasured withoutDisease outsideLimits notZero refusalsOfRead measuredBeyond fitsBy enrolmentInRange followUpInRange inRange refusalsOn refusalHeld
+unfolding leapYear daysInMonth dateExists daysOfYears daysOfMonths dayNumber studyDayOf sizeOutsideLimits measuredOutsideLimits notZeroBeyondCount notZeroUnmeasured withoutDisease outsideLimits notZero refusalsOfRead measuredBeyond fitsBy enrolmentInRange followUpInRange inRange refusalsOfEntryHeld refusalOfAddingHeld
 order-by-value = record { outsideFirst = refl; dateBeforeBaseline = refl; secondBaseline = refl; visit = refl }
 
 pub order-from-bytes : OrderFromBytes
-unfolding leapYear daysInMonth dateExists daysOfYears daysOfMonths dayNumber studyDayOf wrongSize largeMeasured setBeyond sizedUnmeasured withoutDisease outsideLimits notZero refusalsOfRead bytesNumber statusFrom baselineIn visitIn spareIn rawIn refusalsOfNumber refusalsOfBytes recordOfBytes measuredBeyond fitsBy enrolmentInRange followUpInRange inRange refusalsOn refusalFromBytes
+unfolding leapYear daysInMonth dateExists daysOfYears daysOfMonths dayNumber studyDayOf sizeOutsideLimits measuredOutsideLimits notZeroBeyondCount notZeroUnmeasured withoutDisease outsideLimits notZero refusalsOfRead bytesNumber statusFrom baselineIn visitIn spareIn rawIn refusalsOfRecordNumber refusalsOfBytes recordOfBytes measuredBeyond fitsBy enrolmentInRange followUpInRange inRange refusalsOfEntryHeld refusalOfAddingBytesHeld
 order-from-bytes =
     record {
       outsideFirst = refl;
@@ -79,5 +79,5 @@ order-from-bytes =
     }
 
 pub beside-numbers : BesideNumbers
-unfolding leapYear daysInMonth dateExists daysOfYears daysOfMonths dayNumber studyDayOf measuredSum allMeasured allGone grown shrunk targetAnswer afterVisit overallBy overallAnswer changeBetween changeOf eventAfter countedAfter answerOn visitAdded
+unfolding leapYear daysInMonth dateExists daysOfYears daysOfMonths dayNumber studyDayOf sumOfDiameters allMeasured allDisappeared progressionFromNadir partialResponse targetAnswer afterVisit overallBy overallAnswer changeBetween changeOf eventAfter countingAfter overallHeld visitAdded
 beside-numbers = record { done = refl; next = refl; refused = refl; same = refl }

@@ -18,13 +18,13 @@ use Rattle.response_rules.specs.declared.Overall.the-variants as O
 use Rattle.response_rules.specs.declared.ChangeAnswer.the-variants as C
 use Rattle.outcome_rules.specs.declared.BestResponse.the-variants as B
 use Rattle.outcome_rules.specs.declared.MaybeDay.the-variants as M
-use Rattle.outcome_rules.specs.AddingExamples.{printedBaseline, visited}
+use Rattle.outcome_rules.specs.AddingExamples.{printedBaseline, printedVisit43}
 use Rattle.subject.specs.declared.Subject.{Subject}
 use Rattle.subject.specs.declared.CountingVisits.{CountingVisits}
 use Rattle.subject.specs.HeldExamples.{day, onDay, events, counts, noEvents, noCounts, disease, subjectWith, printedWith, printedOpened, printedVisited}
 use Rattle.adding.specs.Responses.{addResponses}
 use Rattle.adding.specs.Refusals.{addNumber}
-use Rattle.adding.specs.Promises.{refusalsOnDay, linesOnDay, addedOnDay, responsesBy, subjectBy, refusalHeld, refusalFromBytes}
+use Rattle.adding.specs.Promises.{refusalsOfRecordHeld, responsesHeld, addedHeld, responsesBy, subjectBy, refusalOfAddingHeld, refusalOfAddingBytesHeld}
 use Rattle.adding.specs.declared.AddAnswer.{AddAnswer}
 use Rattle.adding.specs.declared.AddAnswer.the-variants as A
 use Rattle.adding.specs.declared.VisitResponse.{VisitResponse}
@@ -50,11 +50,11 @@ pub record NumbersOfCases : Type 0 where
 abbrev pub response43 : CountingVisits
 response43 = counts (onDay 43) M.Absent B.SD
 
-abbrev pub treated : Subject
-treated = printedWith 36 50 true M.Absent (events M.Absent 43 (onDay 43)) response43
+abbrev pub afterTherapy50 : Subject
+afterTherapy50 = printedWith 36 50 true M.Absent (events M.Absent 43 (onDay 43)) response43
 
-abbrev pub died : Subject
-died = printedWith 36 50 false (onDay 50) (events M.Absent 43 (onDay 43)) response43
+abbrev pub afterDeath50 : Subject
+afterDeath50 = printedWith 36 50 false (onDay 50) (events M.Absent 43 (onDay 43)) response43
 
 abbrev pub progressed : Subject
 progressed = printedWith 36 43 false M.Absent (events (onDay 43) 1 M.Absent) (counts M.Absent M.Absent B.PD)
@@ -72,48 +72,48 @@ visit85 = visitDated (ymd 2020 3 25) S.NN false (true ∷ true ∷ []) (24 ∷ 1
 
 pub record FirstRefusals : Type 0 where
   -- a visit later than the latest day that fits the baseline
-  pub fitting : first (refusalsOnDay printedOpened visited) ≡ 0
+  pub fitting : first (refusalsOfRecordHeld printedOpened printedVisit43) ≡ 0
   -- 8 before 9, 9 before 10
-  pub secondBaseline : first (refusalsOnDay died (printedBaseline (ymd 2020 2 12))) ≡ 8
-  pub afterDeath : first (refusalsOnDay died (therapyDated (ymd 2020 2 1))) ≡ 9
+  pub secondBaseline : first (refusalsOfRecordHeld afterDeath50 (printedBaseline (ymd 2020 2 12))) ≡ 8
+  pub afterDeath : first (refusalsOfRecordHeld afterDeath50 (therapyDated (ymd 2020 2 1))) ≡ 9
   -- 10: a visit on the latest day, a therapy and a death before it; not on it
-  pub visitOnLatest : first (refusalsOnDay printedVisited visited) ≡ 10
-  pub therapyBefore : first (refusalsOnDay printedVisited (therapyDated (ymd 2020 2 11))) ≡ 10
-  pub therapyOnLatest : first (refusalsOnDay printedVisited (therapyDated (ymd 2020 2 12))) ≡ 0
-  pub deathBefore : first (refusalsOnDay printedVisited (deathDated (ymd 2020 2 11))) ≡ 10
-  pub deathOnLatest : first (refusalsOnDay printedVisited (deathDated (ymd 2020 2 12))) ≡ 0
-  pub beforeRandomisation : first (refusalsOnDay printedOpened (therapyDated (ymd 2019 12 31))) ≡ 10
+  pub visitOnLatest : first (refusalsOfRecordHeld printedVisited printedVisit43) ≡ 10
+  pub therapyBefore : first (refusalsOfRecordHeld printedVisited (therapyDated (ymd 2020 2 11))) ≡ 10
+  pub therapyOnLatest : first (refusalsOfRecordHeld printedVisited (therapyDated (ymd 2020 2 12))) ≡ 0
+  pub deathBefore : first (refusalsOfRecordHeld printedVisited (deathDated (ymd 2020 2 11))) ≡ 10
+  pub deathOnLatest : first (refusalsOfRecordHeld printedVisited (deathDated (ymd 2020 2 12))) ≡ 0
+  pub beforeRandomisation : first (refusalsOfRecordHeld printedOpened (therapyDated (ymd 2019 12 31))) ≡ 10
   -- 10 before 11
-  pub misfitOnLatest : first (refusalsOnDay printedVisited (visitDated (ymd 2020 2 12) S.NA false [] [])) ≡ 10
-  pub statusNA : first (refusalsOnDay printedOpened (visitDated (ymd 2020 2 12) S.NA false [] [])) ≡ 11
-  pub statusWithoutLesions : first (refusalsOnDay withoutNontarget visited) ≡ 11
-  pub beyondCount : first (refusalsOnDay printedOpened (visitDated (ymd 2020 2 12) S.NN false (false ∷ false ∷ true ∷ []) [])) ≡ 11
+  pub misfitOnLatest : first (refusalsOfRecordHeld printedVisited (visitDated (ymd 2020 2 12) S.NA false [] [])) ≡ 10
+  pub statusNA : first (refusalsOfRecordHeld printedOpened (visitDated (ymd 2020 2 12) S.NA false [] [])) ≡ 11
+  pub statusWithoutLesions : first (refusalsOfRecordHeld withoutNontarget printedVisit43) ≡ 11
+  pub beyondCount : first (refusalsOfRecordHeld printedOpened (visitDated (ymd 2020 2 12) S.NN false (false ∷ false ∷ true ∷ []) [])) ≡ 11
 
 pub record AddedAtTheEdges : Type 0 where
   -- the nadir, v, the last evaluable visit and the first counting response move with a visit; a therapy and a death are recorded
-  pub visit : addedOnDay printedOpened visited ≡ printedVisited
-  pub therapy : addedOnDay printedVisited (therapyDated (ymd 2020 2 19)) ≡ treated
-  pub death : addedOnDay printedVisited (deathDated (ymd 2020 2 19)) ≡ died
+  pub visit : addedHeld printedOpened printedVisit43 ≡ printedVisited
+  pub therapy : addedHeld printedVisited (therapyDated (ymd 2020 2 19)) ≡ afterTherapy50
+  pub death : addedHeld printedVisited (deathDated (ymd 2020 2 19)) ≡ afterDeath50
   -- after a therapy v and the last evaluable visit move, and no visit counts
-  pub afterTherapy : addedOnDay treated visit85 ≡ printedWith 36 85 true M.Absent (events M.Absent 85 (onDay 85)) response43
+  pub afterTherapy : addedHeld afterTherapy50 visit85 ≡ printedWith 36 85 true M.Absent (events M.Absent 85 (onDay 85)) response43
   -- after a progression the latest day alone moves
-  pub afterProgression : addedOnDay progressed visit85
+  pub afterProgression : addedHeld progressed visit85
       ≡ printedWith 36 85 false M.Absent (events (onDay 43) 1 M.Absent) (counts M.Absent M.Absent B.PD)
   -- a therapy stays recorded behind it
-  pub deathAfterTherapy : addedOnDay treated (deathDated (ymd 2020 2 19)) ≡ printedWith 36 50 true (onDay 50) (events M.Absent 43 (onDay 43)) response43
+  pub deathAfterTherapy : addedHeld afterTherapy50 (deathDated (ymd 2020 2 19)) ≡ printedWith 36 50 true (onDay 50) (events M.Absent 43 (onDay 43)) response43
 
 pub record LinesAtTheEdges : Type 0 where
   -- V 43 PR NN PR -40.0; therapy and death print no line of their own
-  pub visit : linesOnDay printedOpened visited ≡ record { day = 43; target = PR; nontarget = NN; overall = PR; change = signed true 400 } ∷ []
-  pub therapy : linesOnDay printedVisited (therapyDated (ymd 2020 2 19)) ≡ []
-  pub death : linesOnDay printedVisited (deathDated (ymd 2020 2 19)) ≡ []
+  pub visit : responsesHeld printedOpened printedVisit43 ≡ record { day = 43; target = PR; nontarget = NN; overall = PR; change = signed true 400 } ∷ []
+  pub therapy : responsesHeld printedVisited (therapyDated (ymd 2020 2 19)) ≡ []
+  pub death : responsesHeld printedVisited (deathDated (ymd 2020 2 19)) ≡ []
   -- behind a progression too: V 85 PR NN PR -40.0
-  pub afterProgression : linesOnDay progressed visit85 ≡ record { day = 85; target = PR; nontarget = NN; overall = PR; change = signed true 400 } ∷ []
+  pub afterProgression : responsesHeld progressed visit85 ≡ record { day = 85; target = PR; nontarget = NN; overall = PR; change = signed true 400 } ∷ []
   -- baseline missing: NE, new lesion or not
-  pub missing : linesOnDay baselineMissing (visitDated (ymd 2020 2 12) S.NA true [] [])
+  pub missing : responsesHeld baselineMissing (visitDated (ymd 2020 2 12) S.NA true [] [])
       ≡ record { day = 43; target = NA; nontarget = NA; overall = NE; change = none } ∷ []
   -- a new lesion gives PD: V 85 PR NE PD -40.0
-  pub newLesion : linesOnDay printedVisited (visitDated (ymd 2020 3 25) S.NE true (true ∷ true ∷ []) (24 ∷ 12 ∷ []))
+  pub newLesion : responsesHeld printedVisited (visitDated (ymd 2020 3 25) S.NE true (true ∷ true ∷ []) (24 ∷ 12 ∷ []))
       ≡ record { day = 85; target = PR; nontarget = NE; overall = PD; change = signed true 400 } ∷ []
 
 -- a subject out of range by its latest day
@@ -122,29 +122,29 @@ outside = printedWith 60 0 false M.Absent noEvents noCounts
 
 -- by value: 12, then 3 to 5, then 8 to 11
 pub record OrderByValue : Type 0 where
-  pub outsideFirst : refusalHeld outside (therapyDated (ymd 2021 2 29)) ≡ 12
-  pub dateBeforeBaseline : refusalHeld printedOpened (printedBaseline (ymd 2021 2 29)) ≡ 3
-  pub secondBaseline : refusalHeld printedOpened (printedBaseline (ymd 2020 2 12)) ≡ 8
-  pub visit : refusalHeld printedOpened visited ≡ 0
+  pub outsideFirst : refusalOfAddingHeld outside (therapyDated (ymd 2021 2 29)) ≡ 12
+  pub dateBeforeBaseline : refusalOfAddingHeld printedOpened (printedBaseline (ymd 2021 2 29)) ≡ 3
+  pub secondBaseline : refusalOfAddingHeld printedOpened (printedBaseline (ymd 2020 2 12)) ≡ 8
+  pub visit : refusalOfAddingHeld printedOpened printedVisit43 ≡ 0
 
 -- from bytes: 12, then 1 and 2, then 3 to 5, then 8 to 11
 pub record OrderFromBytes : Type 0 where
   -- no bytes, with a subject out of range and in range
-  pub outsideFirst : refusalFromBytes outside [] ≡ 12
-  pub outsideTherapy : refusalFromBytes outside (eleven (0x6F ∷ 0xCA ∷ 0x5D ∷ [])) ≡ 12
-  pub short : refusalFromBytes printedOpened [] ≡ 1
-  pub noKind : refusalFromBytes printedOpened (eleven []) ≡ 2
+  pub outsideFirst : refusalOfAddingBytesHeld outside [] ≡ 12
+  pub outsideTherapy : refusalOfAddingBytesHeld outside (eleven (0x6F ∷ 0xCA ∷ 0x5D ∷ [])) ≡ 12
+  pub short : refusalOfAddingBytesHeld printedOpened [] ≡ 1
+  pub noKind : refusalOfAddingBytesHeld printedOpened (eleven []) ≡ 2
   -- a therapy of 2021-02-29; a baseline with its last spare bit set; the printed baseline a second time
-  pub noDate : refusalFromBytes printedOpened (eleven (0x6F ∷ 0xCA ∷ 0x5D ∷ [])) ≡ 3
-  pub spareBeforeBaseline : refusalFromBytes printedOpened (0x2F ∷ 0xC8 ∷ 0x21 ∷ 0xD0 ∷ 0x28 ∷ 0x82 ∷ 0x80 ∷ 0x00 ∷ 0x00 ∷ 0x00 ∷ 0x01 ∷ []) ≡ 5
-  pub secondBaseline : refusalFromBytes printedOpened printedBytes ≡ 8
+  pub noDate : refusalOfAddingBytesHeld printedOpened (eleven (0x6F ∷ 0xCA ∷ 0x5D ∷ [])) ≡ 3
+  pub spareBeforeBaseline : refusalOfAddingBytesHeld printedOpened (0x2F ∷ 0xC8 ∷ 0x21 ∷ 0xD0 ∷ 0x28 ∷ 0x82 ∷ 0x80 ∷ 0x00 ∷ 0x00 ∷ 0x00 ∷ 0x01 ∷ []) ≡ 5
+  pub secondBaseline : refusalOfAddingBytesHeld printedOpened printedBytes ≡ 8
   -- the printed visit, and a second time on its day
-  pub visit : refusalFromBytes printedOpened printedVisitBytes ≡ 0
-  pub visitAgain : refusalFromBytes printedVisited printedVisitBytes ≡ 10
+  pub visit : refusalOfAddingBytesHeld printedOpened printedVisitBytes ≡ 0
+  pub visitAgain : refusalOfAddingBytesHeld printedVisited printedVisitBytes ≡ 10
 
 -- what stands beside a number: the responses and the next subject, or nothing and the same subject
 pub record BesideNumbers : Type 0 where
-  pub done : responsesBy printedOpened visited 0 ≡ record { day = 43; target = PR; nontarget = NN; overall = PR; change = signed true 400 } ∷ []
-  pub next : subjectBy printedOpened visited 0 ≡ printedVisited
-  pub refused : responsesBy printedOpened visited 10 ≡ []
-  pub same : subjectBy printedOpened visited 10 ≡ printedOpened
+  pub done : responsesBy printedOpened printedVisit43 0 ≡ record { day = 43; target = PR; nontarget = NN; overall = PR; change = signed true 400 } ∷ []
+  pub next : subjectBy printedOpened printedVisit43 0 ≡ printedVisited
+  pub refused : responsesBy printedOpened printedVisit43 10 ≡ []
+  pub same : subjectBy printedOpened printedVisit43 10 ≡ printedOpened

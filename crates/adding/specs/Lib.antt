@@ -1,4 +1,4 @@
-pub mod Added
+pub mod OneRecordMore
 pub mod Responses
 pub mod Refusals
 pub mod Promises

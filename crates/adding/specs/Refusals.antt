@@ -31,22 +31,22 @@ addNumber A.OutOfRange = 12
 addNumber (A.Refused own) = ownNumber own
 
 -- each visit is later than the latest day so far, each therapy or death on or after it
-abbrev pub earlyOn : FollowUp → StudyDay → Entry → Bool
-earlyOn f day (E.Baseline b) = false
-earlyOn f day (E.Visit v) = leb (day .0) (f .latestday .0)
-earlyOn f day (E.Therapy d) = ltb (day .0) (f .latestday .0)
-earlyOn f day (E.Death d) = ltb (day .0) (f .latestday .0)
+abbrev pub tooEarlyHeld : FollowUp → StudyDay → Entry → Bool
+tooEarlyHeld f day (E.Baseline b) = false
+tooEarlyHeld f day (E.Visit v) = leb (day .0) (f .latestday .0)
+tooEarlyHeld f day (E.Therapy d) = ltb (day .0) (f .latestday .0)
+tooEarlyHeld f day (E.Death d) = ltb (day .0) (f .latestday .0)
 
-abbrev pub misfitOn : Enrolment → Entry → List Bool → Bool
-misfitOn e (E.Baseline b) measured = false
-misfitOn e (E.Visit v) measured = not (fitsBy (e .disease .count) (e .nontarget) (v .status) measured)
-misfitOn e (E.Therapy d) measured = false
-misfitOn e (E.Death d) measured = false
+abbrev pub misfitsHeld : Enrolment → Entry → List Bool → Bool
+misfitsHeld e (E.Baseline b) measured = false
+misfitsHeld e (E.Visit v) measured = not (fitsBy (e .disease .count) (e .nontarget) (v .status) measured)
+misfitsHeld e (E.Therapy d) measured = false
+misfitsHeld e (E.Death d) measured = false
 
 -- 9 after a death; 10 day too early; 11 visit doesn't fit baseline
-abbrev pub refusalsBy : FollowUp → Bool → Bool → List Refusal
-refusalsBy f early misfit = 9 when isRecorded (dayValue (f .deathday)) ∷ 10 when early ∷ 11 when misfit ∷ []
+abbrev pub refusalsOfLaterHeld : FollowUp → Bool → Bool → List Refusal
+refusalsOfLaterHeld f early misfit = 9 when isRecorded (dayValue (f .deathday)) ∷ 10 when early ∷ 11 when misfit ∷ []
 
 -- 8 a baseline, before these
-unfoldable pub refusalsOn : Enrolment → FollowUp → StudyDay → Entry → List Bool → List Refusal
-refusalsOn e f day r marks = 8 when eqb (kindNumber r) 1 ∷ refusalsBy f (earlyOn f day r) (misfitOn e r marks)
+unfoldable pub refusalsOfEntryHeld : Enrolment → FollowUp → StudyDay → Entry → List Bool → List Refusal
+refusalsOfEntryHeld e f day r marks = 8 when eqb (kindNumber r) 1 ∷ refusalsOfLaterHeld f (tooEarlyHeld f day r) (misfitsHeld e r marks)

@@ -18,7 +18,7 @@ use Rattle.subject.specs.declared.FollowUp.{FollowUp}
 use Rattle.adding.specs.declared.AddAnswer.{AddAnswer}
 use Rattle.adding.specs.declared.AddAnswer.the-variants as A
 use Rattle.adding.specs.declared.VisitResponse.{VisitResponse}
-use Rattle.adding.specs.Added.{answerOn}
+use Rattle.adding.specs.OneRecordMore.{overallHeld}
 
 -- the declared cases
 abbrev pub responseValues : VisitResponse → VisitLine
@@ -44,19 +44,19 @@ addResponses A.Misfit = []
 addResponses A.OutOfRange = []
 addResponses (A.Refused own) = []
 
-abbrev pub lineOn : Enrolment → FollowUp → StudyDay → VisitEntry → List Bool → List ℕ → VisitLine
-lineOn e f day v measured sizes =
+abbrev pub lineHeld : Enrolment → FollowUp → StudyDay → VisitEntry → List Bool → List ℕ → VisitLine
+lineHeld e f day v measured sizes =
     record {
       day = day .0;
       target = targetAnswer (e .disease) (f .earlier) (visitOf v measured sizes);
       nontarget = statusWord (v .status);
-      overall = answerOn e f v measured sizes;
+      overall = overallHeld e f v measured sizes;
       change = changeOf (e .disease) (visitOf v measured sizes);
     }
 
 -- a visit has responses, and no other record
-abbrev pub linesOn : Enrolment → FollowUp → StudyDay → Entry → List Bool → List ℕ → List VisitLine
-linesOn e f day (E.Baseline b) marks sizes = []
-linesOn e f day (E.Visit v) marks sizes = lineOn e f day v marks sizes ∷ []
-linesOn e f day (E.Therapy d) marks sizes = []
-linesOn e f day (E.Death d) marks sizes = []
+abbrev pub linesHeld : Enrolment → FollowUp → StudyDay → Entry → List Bool → List ℕ → List VisitLine
+linesHeld e f day (E.Baseline b) marks sizes = []
+linesHeld e f day (E.Visit v) marks sizes = lineHeld e f day v marks sizes ∷ []
+linesHeld e f day (E.Therapy d) marks sizes = []
+linesHeld e f day (E.Death d) marks sizes = []

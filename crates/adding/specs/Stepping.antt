@@ -14,20 +14,20 @@ use Rattle.dates.specs.Calendar.{dateExists}
 use Rattle.records.specs.declared.Entry.{Entry}
 use Rattle.records.specs.declared.Record.{Record}
 use Rattle.records.specs.Entries.{dateOf}
-use Rattle.records.specs.Refusals.{refusalOf}
+use Rattle.records.specs.Refusals.{refusalOfRecord}
 use Rattle.codec.specs.Reading.{refusalOfBytes, recordOfBytes}
 use Rattle.subject.specs.declared.Enrolment.{Enrolment}
 use Rattle.subject.specs.declared.FollowUp.{FollowUp}
 use Rattle.adding.specs.declared.Dated.{Dated}
 use Rattle.adding.specs.declared.Step.{Step}
-use Rattle.adding.specs.Added.{heldDay, entryAdded}
-use Rattle.adding.specs.Responses.{addResponses, linesOn}
-use Rattle.adding.specs.Refusals.{addNumber, refusalsBy, refusalsOn}
+use Rattle.adding.specs.OneRecordMore.{heldDay, entryAdded}
+use Rattle.adding.specs.Responses.{addResponses, linesHeld}
+use Rattle.adding.specs.Refusals.{addNumber, refusalsOfLaterHeld, refusalsOfEntryHeld}
 
 -- a record value on its study day, with the number of its own refusal
 pub record DatedAs (randomisation : Date) (r : Record) (x : Dated) : Type 0 where
   pub day : x .day ≡ heldDay randomisation (dateOf (r .entry))
-  pub own : addNumber (x .own) ≡ refusalOf r
+  pub own : addNumber (x .own) ≡ refusalOfRecord r
   pub found : x .found ≡ r
 
 -- the same of bytes. The number is that of the bytes where the randomisation date exists; else 12 meets the subject before it
@@ -41,18 +41,18 @@ pub record DatedFrom (randomisation : Date) (bytes : List ℕ) (x : Dated) : Typ
 -- a step by the number of its refusal, or 0: the responses, or none, and the next follow-up, or the same one
 pub record StepsBy (e : Enrolment) (f : FollowUp) (day : StudyDay) (r : Entry) (marks : List Bool) (sizes : List ℕ) (n : ℕ) (x : Step) : Type 0 where
   pub answer : addNumber (x .answer) ≡ n
-  pub responses : addResponses (x .answer) ≡ pick (eqb n 0) (linesOn e f day r marks sizes) []
+  pub responses : addResponses (x .answer) ≡ pick (eqb n 0) (linesHeld e f day r marks sizes) []
   pub left : x .followup ≡ pick (eqb n 0) (entryAdded e f day r marks sizes) f
 
 -- 12, then the number of the record's own, then that of 8 to 11, as the code has them
-abbrev pub firstRefusal : Bool → ℕ → ℕ → ℕ
-firstRefusal inside own n = pick inside (pick (eqb own 0) n own) 12
+abbrev pub refusalOfStepHeld : Bool → ℕ → ℕ → ℕ
+refusalOfStepHeld inside own n = pick inside (pick (eqb own 0) n own) 12
 
 abbrev pub Steps : Bool → Enrolment → FollowUp → StudyDay → ℕ → Entry → List Bool → List ℕ → Step → Type 0
-Steps inside e f day own r marks sizes x = StepsBy e f day r marks sizes (firstRefusal inside own (first (refusalsOn e f day r marks))) x
+Steps inside e f day own r marks sizes x = StepsBy e f day r marks sizes (refusalOfStepHeld inside own (first (refusalsOfEntryHeld e f day r marks))) x
 
 -- of a therapy or a death, by the follow-up after it: 9, or 10 before the latest day; no responses
 pub record StepsLater (inside : Bool) (f : FollowUp) (d : Dated) (next : FollowUp) (x : Step) : Type 0 where
-  pub answer : addNumber (x .answer) ≡ firstRefusal inside (addNumber (d .own)) (first (refusalsBy f (ltb (d .day .0) (f .latestday .0)) false))
+  pub answer : addNumber (x .answer) ≡ refusalOfStepHeld inside (addNumber (d .own)) (first (refusalsOfLaterHeld f (ltb (d .day .0) (f .latestday .0)) false))
   pub responses : addResponses (x .answer) ≡ []
   pub left : x .followup ≡ pick (eqb (addNumber (x .answer)) 0) next f

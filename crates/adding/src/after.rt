@@ -6,21 +6,21 @@ use outcome_values::is_recorded;
 use response::VisitAnswer;
 use subject::CountingVisits;
 use subject::FollowUp;
-use subject::counted_after;
+use subject::counting_after;
 use subject::event_after;
 ghost use mathlib.Core.Path.{_≡_};
 ghost use Rattle.laws.specs.Choice.{pick};
 ghost use Rattle.outcome_rules.specs.Course.{judgedValues};
-ghost use Rattle.subject.specs.OneVisitMore.{countedAfter};
-ghost use Rattle.adding.specs.Added.{judgedAs, judgedAdded, later as laterOn, therapyAdded, deathAdded};
+ghost use Rattle.subject.specs.OneVisitMore.{countingAfter};
+ghost use Rattle.adding.specs.OneRecordMore.{judgedAs, judgedAdded, onLaterDay as laterOn, therapyAdded, deathAdded};
 
-fn counted_unless(closed: bool, c: CountingVisits, visit: JudgedVisit) -> CountingVisits
-    ensures { λ r. ⌜ r ≡ pick closed c (countedAfter c (judgedValues visit)) ⌝ }
+fn counting_unless(closed: bool, c: CountingVisits, visit: JudgedVisit) -> CountingVisits
+    ensures { λ r. ⌜ r ≡ pick closed c (countingAfter c (judgedValues visit)) ⌝ }
 {
     if closed {
         return c;
     }
-    counted_after(c, visit)
+    counting_after(c, visit)
 }
 
 pub(crate) fn after_visit(f: FollowUp, day: StudyDay, judged: VisitAnswer) -> FollowUp
@@ -29,23 +29,23 @@ pub(crate) fn after_visit(f: FollowUp, day: StudyDay, judged: VisitAnswer) -> Fo
     let death = f.deathday;
     let before = f.event;
     let progression = before.progression;
-    let counting = f.counted;
+    let shown = f.counting;
     let answer = judged.overall;
     let after = judged.after;
-    let closed = f.treated | is_recorded(progression);
+    let closed = f.therapyrecorded | is_recorded(progression);
     let visit = JudgedVisit {
         day: day,
         answer: answer,
     };
     let event = event_after(before, visit);
-    let counted = counted_unless(closed, counting, visit);
+    let counting = counting_unless(closed, shown, visit);
     FollowUp {
         earlier: after,
         latestday: day,
-        treated: f.treated,
+        therapyrecorded: f.therapyrecorded,
         deathday: death,
         event: event,
-        counted: counted,
+        counting: counting,
     }
 }
 
@@ -55,14 +55,14 @@ fn later(f: FollowUp, day: StudyDay, therapy: bool, death: MaybeDay) -> FollowUp
 {
     let earlier = f.earlier;
     let event = f.event;
-    let counted = f.counted;
+    let counting = f.counting;
     FollowUp {
         earlier: earlier,
         latestday: day,
-        treated: therapy,
+        therapyrecorded: therapy,
         deathday: death,
         event: event,
-        counted: counted,
+        counting: counting,
     }
 }
 
@@ -76,5 +76,5 @@ pub(crate) fn after_therapy(f: FollowUp, day: StudyDay) -> FollowUp
 pub(crate) fn after_death(f: FollowUp, day: StudyDay) -> FollowUp
     ensures { λ r. ⌜ r ≡ deathAdded f day ⌝ }
 {
-    later(f, day, f.treated, MaybeDay::On(day))
+    later(f, day, f.therapyrecorded, MaybeDay::On(day))
 }

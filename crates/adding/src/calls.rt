@@ -12,7 +12,7 @@ use subject::Subject;
 ghost use mathlib.Core.Path.{_≡_};
 ghost use Rattle.laws.specs.Choice.{both};
 ghost use Rattle.subject.specs.Range.{enrolmentInRange, followUpInRange};
-ghost use Rattle.adding.specs.Promises.{Added, AddedBytes};
+ghost use Rattle.adding.specs.Promises.{Adds, AddsBytes};
 
 fn in_range(e: Enrolment, f: FollowUp) -> bool
     ensures { λ r. ⌜ r ≡ both (enrolmentInRange e) (followUpInRange f) ⌝ }
@@ -36,7 +36,7 @@ fn moved(e: Enrolment, s: Step) -> AddResult
 }
 
 pub fn added(s: Subject, r: Record) -> AddResult
-    ensures { λ x. ⌜ Added s r (x .answer) (x .subject) ⌝ }
+    ensures { λ x. ⌜ Adds s r (x .answer) (x .subject) ⌝ }
 {
     let enrolment = s.enrolment;
     let followup = s.followup;
@@ -48,7 +48,7 @@ pub fn added(s: Subject, r: Record) -> AddResult
 
 // The same on a subject that the caller keeps.
 pub fn add(subject: &mut Subject, r: Record) -> AddAnswer
-    ensures { λ a. ⌜ Added (now (subject .entry)) r a (now (subject .exit)) ⌝ }
+    ensures { λ a. ⌜ Adds (now (subject .entry)) r a (now (subject .exit)) ⌝ }
 {
     let next = added(*subject, r);
     *subject = next.subject;
@@ -56,7 +56,7 @@ pub fn add(subject: &mut Subject, r: Record) -> AddAnswer
 }
 
 pub fn add_bytes(s: Subject, bytes: &[u8]) -> AddResult
-    ensures { λ x. ⌜ AddedBytes s (now (bytes .entry)) (x .answer) (x .subject) ⌝ }
+    ensures { λ x. ⌜ AddsBytes s (now (bytes .entry)) (x .answer) (x .subject) ⌝ }
 {
     let enrolment = s.enrolment;
     let followup = s.followup;

@@ -16,8 +16,8 @@ ghost use Rattle.laws.specs.Refusals.{first};
 ghost use Rattle.records.specs.Refusals.{checkNumber};
 ghost use Rattle.records.specs.declared.Entry.the-variants as E;
 ghost use Rattle.codec.specs.Reading.{readNumber};
-ghost use Rattle.adding.specs.Refusals.{addNumber, refusalsBy, refusalsOn};
-ghost use Rattle.adding.specs.Stepping.{firstRefusal};
+ghost use Rattle.adding.specs.Refusals.{addNumber, refusalsOfLaterHeld, refusalsOfEntryHeld};
+ghost use Rattle.adding.specs.Stepping.{refusalOfStepHeld};
 
 pub(crate) fn own_answer(answer: CheckAnswer) -> AddAnswer
     ensures { λ a. ⌜ addNumber a ≡ checkNumber answer ⌝ }
@@ -40,7 +40,7 @@ pub(crate) fn read_answer(answer: ReadAnswer) -> AddAnswer
 }
 
 pub(crate) fn first_refusal(inside: bool, own: AddAnswer, behind: AddAnswer) -> AddAnswer
-    ensures { λ a. ⌜ addNumber a ≡ firstRefusal inside (addNumber own) (addNumber behind) ⌝ }
+    ensures { λ a. ⌜ addNumber a ≡ refusalOfStepHeld inside (addNumber own) (addNumber behind) ⌝ }
 {
     if !inside {
         return AddAnswer::OutOfRange;
@@ -53,7 +53,7 @@ pub(crate) fn first_refusal(inside: bool, own: AddAnswer, behind: AddAnswer) -> 
 
 // 9 to 11.
 fn refusal_behind(f: FollowUp, early: bool, misfit: bool) -> AddAnswer
-    ensures { λ a. ⌜ addNumber a ≡ first (refusalsBy f early misfit) ⌝ }
+    ensures { λ a. ⌜ addNumber a ≡ first (refusalsOfLaterHeld f early misfit) ⌝ }
 {
     let death = f.deathday;
     if is_recorded(death) {
@@ -76,7 +76,7 @@ pub(crate) fn refusal_of_visit(
     v: VisitEntry,
     measured: [bool; 5],
 ) -> AddAnswer
-    ensures { λ a. ⌜ addNumber a ≡ first (refusalsOn e f day (E.Visit v) measured) ⌝ }
+    ensures { λ a. ⌜ addNumber a ≡ first (refusalsOfEntryHeld e f day (E.Visit v) measured) ⌝ }
 {
     let status = v.status;
     let fit = fits(e.disease.count, e.nontarget, status, measured);
@@ -85,7 +85,7 @@ pub(crate) fn refusal_of_visit(
 
 // 9 and 10 of a therapy or a death, which is on or after the latest day.
 pub(crate) fn refusal_on_or_after(f: FollowUp, day: StudyDay) -> AddAnswer
-    ensures { λ a. ⌜ addNumber a ≡ first (refusalsBy f (ltb (day .0) (f .latestday .0)) false) ⌝ }
+    ensures { λ a. ⌜ addNumber a ≡ first (refusalsOfLaterHeld f (ltb (day .0) (f .latestday .0)) false) ⌝ }
 {
     refusal_behind(f, day.0 < f.latestday.0, false)
 }

@@ -12,7 +12,7 @@ use Rattle.outcome_rules.proofs.AtTheEdges.{examples-hold}
 use Rattle.subject.proofs.RangeLaws.{range-laws}
 use Rattle.outcome.proofs.Demand3.{demand3, held-after-calls}
 use Rattle.outcome.proofs.CallsInRange.{calls-in-range}
-use Rattle.file.proofs.FileAsCalls.{as-singly}
+use Rattle.file.proofs.FileAsCalls.{file-as-calls}
 use Rattle.listing_text.proofs.AtTheEdges.{lines-at-the-edges}
 use Rattle.listing_text.proofs.ListingLength.{lengths}
 use Rattle.claims.specs.Claims.{Claims}
@@ -32,7 +32,7 @@ claims =
       held = held-after-calls;
       calls = call-laws;
       change = change-laws;
-      file = as-singly;
+      file = file-as-calls;
       lines = lines-at-the-edges;
       lengths = lengths;
       first = first-laws;

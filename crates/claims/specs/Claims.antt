@@ -13,7 +13,7 @@ use Rattle.subject.specs.Laws.{RangeLaws}
 use Rattle.outcome.specs.Demand3.{Demand3}
 use Rattle.outcome.specs.HeldAfter.{HeldAfterCalls}
 use Rattle.outcome.specs.Laws.{CallsInRange}
-use Rattle.file.specs.FileAsCalls.{AsSingly}
+use Rattle.file.specs.FileAsCalls.{FileAsCalls}
 use Rattle.listing_text.specs.Examples.{LinesAtTheEdges}
 use Rattle.listing_text.specs.Laws.{Lengths}
 
@@ -36,7 +36,7 @@ pub record Claims : Type 1 where
   pub calls : CallLaws
   -- "Change in size, file and listing": rounding; a file is judged as its records are one by one; the printed listing, and how long one can be
   pub change : ChangeLaws
-  pub file : AsSingly
+  pub file : FileAsCalls
   pub lines : LinesAtTheEdges
   pub lengths : Lengths
   -- "Where a call stops": the first refusal of a list; 8 to 11 and lawful lists; 12, and what it keeps

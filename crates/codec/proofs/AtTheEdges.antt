@@ -2,9 +2,9 @@
 -- Assumes nothing.
 use mathlib.Core.Path.{refl}
 use Rattle.dates.specs.Calendar.{leapYear, daysInMonth, dateExists}
-use Rattle.records.specs.Refusals.{wrongSize, largeMeasured, setBeyond, sizedUnmeasured, withoutDisease, outsideLimits, notZero, refusalsOfRead}
+use Rattle.records.specs.Refusals.{sizeOutsideLimits, measuredOutsideLimits, notZeroBeyondCount, notZeroUnmeasured, withoutDisease, outsideLimits, notZero, refusalsOfRead}
 use Rattle.codec.specs.Bytes.{recordNumber, bytesOf, bytesNumber}
-use Rattle.codec.specs.Reading.{statusFrom, baselineIn, visitFieldsIn, visitFieldsOf, visitIn, spareIn, rawIn, refusalsOfNumber, refusalsOfBytes, recordOfBytes}
+use Rattle.codec.specs.Reading.{statusFrom, baselineIn, visitFieldsIn, visitFieldsOf, visitIn, spareIn, rawIn, refusalsOfRecordNumber, refusalsOfBytes, recordOfBytes}
 use Rattle.codec.specs.Examples.{BytesOfEachKind, ReadOfEachKind, FirstRefusals, FieldsByTheirBits, FieldsOfVisits}
 
 pub bytes-of-each-kind : BytesOfEachKind
@@ -23,7 +23,7 @@ bytes-of-each-kind =
     }
 
 pub read-of-each-kind : ReadOfEachKind
-unfolding leapYear daysInMonth dateExists wrongSize largeMeasured setBeyond sizedUnmeasured withoutDisease outsideLimits notZero refusalsOfRead bytesNumber statusFrom baselineIn visitIn spareIn rawIn refusalsOfNumber refusalsOfBytes recordOfBytes
+unfolding leapYear daysInMonth dateExists sizeOutsideLimits measuredOutsideLimits notZeroBeyondCount notZeroUnmeasured withoutDisease outsideLimits notZero refusalsOfRead bytesNumber statusFrom baselineIn visitIn spareIn rawIn refusalsOfRecordNumber refusalsOfBytes recordOfBytes
 read-of-each-kind =
     record {
       printed = refl;
@@ -39,7 +39,7 @@ read-of-each-kind =
     }
 
 pub first-refusals : FirstRefusals
-unfolding leapYear daysInMonth dateExists wrongSize largeMeasured setBeyond sizedUnmeasured withoutDisease outsideLimits notZero refusalsOfRead bytesNumber statusFrom baselineIn visitIn spareIn rawIn refusalsOfNumber refusalsOfBytes
+unfolding leapYear daysInMonth dateExists sizeOutsideLimits measuredOutsideLimits notZeroBeyondCount notZeroUnmeasured withoutDisease outsideLimits notZero refusalsOfRead bytesNumber statusFrom baselineIn visitIn spareIn rawIn refusalsOfRecordNumber refusalsOfBytes
 first-refusals =
     record {
       noBytes = refl;

@@ -11,7 +11,7 @@ use Rattle.records.specs.declared.Entry.{Entry}
 use Rattle.records.specs.declared.Entry.the-variants as E
 use Rattle.records.specs.Entries.{Five}
 use Rattle.codec.specs.Bytes.{bytesNumber}
-use Rattle.codec.specs.Reading.{baselineIn, visitIn, dateIn, spareIn, kindIn, rawIn, refusalOfBytes, blank, recordOfBytes}
+use Rattle.codec.specs.Reading.{baselineIn, visitIn, dateIn, spareIn, kindIn, rawIn, refusalOfBytes, blankRecord, recordOfBytes}
 
 baseline-five : (n : ℕ) → Five (baselineIn n .read)
 unfolding baselineIn
@@ -40,5 +40,5 @@ raw-five kind n =
 pub found-five : (s : List ℕ) → Five (recordOfBytes s)
 unfolding recordOfBytes
 found-five s =
-    choice-five (λ r. r) (eqb (refusalOfBytes s) 0) (rawIn (kindIn (bytesNumber s)) (bytesNumber s) .read) blank
+    choice-five (λ r. r) (eqb (refusalOfBytes s) 0) (rawIn (kindIn (bytesNumber s)) (bytesNumber s) .read) blankRecord
     (raw-five (kindIn (bytesNumber s)) (bytesNumber s)) (record { sizes = refl; marks = refl })

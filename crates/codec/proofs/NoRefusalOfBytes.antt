@@ -14,9 +14,9 @@ use Rattle.laws.proofs.Tests.{both-true}
 use Rattle.laws.proofs.FirstRefusal.{none-meets, first-append}
 use Rattle.laws.specs.Layout.{AreBytes}
 use Rattle.records.proofs.NoOwnRefusal.{Passes, each-own, passes, no-refusal as no-refusal-of}
-use Rattle.records.specs.Refusals.{refusalOf}
+use Rattle.records.specs.Refusals.{refusalOfRecord}
 use Rattle.codec.specs.Bytes.{recordLength, bytesNumber}
-use Rattle.codec.specs.Reading.{rawIn, kindIn, refusalsOfNumber, refusalsOfBytes, refusalOfBytes, recordOfBytes}
+use Rattle.codec.specs.Reading.{rawIn, kindIn, refusalsOfRecordNumber, refusalsOfBytes, refusalOfBytes, recordOfBytes}
 
 -- a number that no refusal meets: its kind, and what is read of it
 pub record Fine (n : ℕ) : Type 0 where
@@ -24,8 +24,8 @@ pub record Fine (n : ℕ) : Type 0 where
   pub high : kindIn n ≤ 4
   pub passed : Passes (rawIn (kindIn n) n .read) (rawIn (kindIn n) n .badstatus) (rawIn (kindIn n) n .spare)
 
-each-of-number : (P : ℕ → Type 0) → P 2 → P 3 → P 4 → P 5 → (n : ℕ) → Each P (refusalsOfNumber n)
-unfolding refusalsOfNumber
+each-of-number : (P : ℕ → Type 0) → P 2 → P 3 → P 4 → P 5 → (n : ℕ) → Each P (refusalsOfRecordNumber n)
+unfolding refusalsOfRecordNumber
 each-of-number P two three four five n = let w = rawIn (kindIn n) n in (two, each-own P three four five (w .read) (w .badstatus) (w .spare))
 
 -- what holds of 1 to 5 holds of the number of each refusal of bytes
@@ -40,11 +40,11 @@ bytes-numbered = each-of-bytes (λ (n : ℕ). 1 ≤ n) (omega arith) (omega arit
 pub after-reading : (s : List ℕ) (others : List Refusal) → first (refusalsOfBytes s ++ others) ≡ pick (eqb (refusalOfBytes s) 0) (first others) (refusalOfBytes s)
 after-reading s others = first-append (refusalsOfBytes s) others (bytes-numbered s)
 
-pub fine : (n : ℕ) → first (refusalsOfNumber n) ≡ 0 → Fine n
-unfolding refusalsOfNumber
+pub fine : (n : ℕ) → first (refusalsOfRecordNumber n) ≡ 0 → Fine n
+unfolding refusalsOfRecordNumber
 fine n e =
     let w = rawIn (kindIn n) n in
-    let known = none-meets (refusalsOfNumber n) (each-of-number (λ (k : ℕ). 1 ≤ k) (omega arith) (omega arith) (omega arith) (omega arith) n) .0 e .0 in
+    let known = none-meets (refusalsOfRecordNumber n) (each-of-number (λ (k : ℕ). 1 ≤ k) (omega arith) (omega arith) (omega arith) (omega arith) n) .0 e .0 in
     let k = both-true (leb 1 (kindIn n)) (leb (kindIn n) 4) (not-false _ known) in
     record { low = leb-true 1 (kindIn n) (k .0); high = leb-true (kindIn n) 4 (k .1); passed = passes (w .read) (w .badstatus) (w .spare) (rw known at e) }
 
@@ -53,11 +53,11 @@ module _ (s : List ℕ) (b : AreBytes s) (e : refusalOfBytes s ≡ 0) where
   unfolding refusalsOfBytes
   eleven = eqb-true (length s) recordLength (not-false _ (none-meets (refusalsOfBytes s) (bytes-numbered s) .0 e .0))
 
-  pub no-refusal : first (refusalsOfNumber (bytesNumber s)) ≡ 0
+  pub no-refusal : first (refusalsOfRecordNumber (bytesNumber s)) ≡ 0
   unfolding refusalsOfBytes
   no-refusal = rw (eq-eqb (length s) recordLength eleven) at e
 
-  pub found-fine : refusalOf (recordOfBytes s) ≡ 0
+  pub found-fine : refusalOfRecord (recordOfBytes s) ≡ 0
   unfolding recordOfBytes
   found-fine =
       let n = bytesNumber s in

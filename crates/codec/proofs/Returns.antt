@@ -17,7 +17,7 @@ use Rattle.records.specs.declared.CheckAnswer.the-variants as C
 use Rattle.records.proofs.NoOwnRefusal.{own-not-0}
 use Rattle.codec.specs.Bytes.{recordLength, bytesNumber}
 use Rattle.codec.specs.Fields.{fieldAt}
-use Rattle.codec.specs.Reading.{readNumber, isKind, rawIn, refusalsOfRaw, refusalsOfNumber, refusalsOfBytes, refusalOfBytes, blank, recordOfBytes, JudgesRead, Reads, visitFieldsIn, blankVisit, visitFieldsOf, ReadsVisit}
+use Rattle.codec.specs.Reading.{readNumber, isKind, rawIn, refusalsOfRaw, refusalsOfRecordNumber, refusalsOfBytes, refusalOfBytes, blankRecord, recordOfBytes, JudgesRead, Reads, visitFieldsIn, blankVisit, visitFieldsOf, ReadsVisit}
 use Rattle.codec.specs.declared.Raw.{Raw}
 use Rattle.codec.specs.declared.ReadAnswer.the-variants as R
 use Rattle.codec.specs.declared.ReadResult.{ReadResult}
@@ -26,7 +26,7 @@ use Rattle.codec.specs.declared.VisitFields.{VisitFields}
 -- ---- judging what was read: `search` finds the premises by itself
 
 module _ (w : Raw) (a : CheckAnswer) (e : checkNumber a ≡ first (refusalsOfRaw w)) where
-  pub judged-refused : (x : ReadResult) (own : OwnRefusal) → a ≡ C.Refused own → (x .answer ≡ R.Refused own) × (x .found ≡ blank) → JudgesRead w x
+  pub judged-refused : (x : ReadResult) (own : OwnRefusal) → a ≡ C.Refused own → (x .answer ≡ R.Refused own) × (x .found ≡ blankRecord) → JudgesRead w x
   judged-refused x own p q =
       let n : first (refusalsOfRaw w) ≡ ownNumber own = sym e ∙ ap checkNumber p in
       record { answer = ap readNumber (q .0) ∙ sym n; found = q .1 ∙ rw (n, own-not-0 own) }
@@ -39,22 +39,22 @@ module _ (w : Raw) (a : CheckAnswer) (e : checkNumber a ≡ first (refusalsOfRaw
 -- ---- reading
 
 module _ (s : List ℕ) (x : ReadResult) (b : AreBytes s) where
-  reads-refused : (n : ℕ) → refusalOfBytes s ≡ suc n → readNumber (x .answer) ≡ suc n → x .found ≡ blank → Reads s x
+  reads-refused : (n : ℕ) → refusalOfBytes s ≡ suc n → readNumber (x .answer) ≡ suc n → x .found ≡ blankRecord → Reads s x
   unfolding recordOfBytes
   reads-refused n e r f = record { answer = r ∙ sym e; found = f ∙ rw (e, ne-eqb (suc n) 0 (omega arith)); octets = b }
 
-  pub reads-length : (length s ≡ recordLength → ⊥) → (x .answer ≡ R.NotElevenBytes) × (x .found ≡ blank) → Reads s x
+  pub reads-length : (length s ≡ recordLength → ⊥) → (x .answer ≡ R.NotElevenBytes) × (x .found ≡ blankRecord) → Reads s x
   unfolding refusalsOfBytes
   reads-length h q = reads-refused 0 (rw (ne-eqb (length s) recordLength h)) (ap readNumber (q .0)) (q .1)
 
   module _ (l : length s ≡ recordLength) (kind : ℕ) (ke : kind ≡ fieldAt s 0 3) where
     module _ (known : Bool) (known-e : known ≡ isKind kind) where
-      pub reads-no-kind : not known ≡ true → (x .answer ≡ R.NoSuchKind) × (x .found ≡ blank) → Reads s x
-      unfolding refusalsOfBytes refusalsOfNumber
+      pub reads-no-kind : not known ≡ true → (x .answer ≡ R.NoSuchKind) × (x .found ≡ blankRecord) → Reads s x
+      unfolding refusalsOfBytes refusalsOfRecordNumber
       reads-no-kind h q = reads-refused 1 (rw (eq-eqb (length s) recordLength l, ← ke, ← known-e, h)) (ap readNumber (q .0)) (q .1)
 
       pub reads-judged : not known ≡ false → (w : Raw) → w ≡ rawIn kind (bytesNumber s) → JudgesRead w x → Reads s x
-      unfolding refusalsOfBytes refusalsOfNumber recordOfBytes
+      unfolding refusalsOfBytes refusalsOfRecordNumber recordOfBytes
       reads-judged h w we j =
           let q : refusalOfBytes s ≡ first (refusalsOfRaw w) = rw (eq-eqb (length s) recordLength l, ← ke, ← known-e, h, we) in
           record { answer = j .answer ∙ sym q; found = j .found ∙ rw (q, ← ke, we); octets = b }

@@ -15,7 +15,7 @@ use Rattle.dates.specs.declared.Date.{Date}
 use Rattle.records.specs.declared.Entry.the-variants as E
 use Rattle.records.specs.Entries.{dateOf}
 use Rattle.codec.specs.Bytes.{recordLength, bytesNumber}
-use Rattle.codec.specs.Reading.{baselineIn, rawVisit, visitFieldsIn, visitIn, spareIn, dateIn, kindIn, rawIn, refusalsOfRaw, refusalsOfNumber, refusalsOfBytes, refusalOfBytes, recordOfBytes, visitFieldsOf}
+use Rattle.codec.specs.Reading.{baselineIn, rawVisit, visitFieldsIn, visitIn, spareIn, dateIn, kindIn, rawIn, refusalsOfRaw, refusalsOfRecordNumber, refusalsOfBytes, refusalOfBytes, recordOfBytes, visitFieldsOf}
 use Rattle.codec.specs.declared.Raw.{Raw}
 use Rattle.codec.specs.declared.VisitFields.{VisitFields}
 use Rattle.codec.proofs.NoRefusalOfBytes.{eleven}
@@ -59,7 +59,7 @@ pub record IsVisit (s : List ℕ) (v : VisitFields) : Type 0 where
   pub found : refusalOfBytes s ≡ 0 → recordOfBytes s ≡ rawVisit v .read
 
 pub is-visit : (s : List ℕ) → visitFieldsOf s .isvisit ≡ true → IsVisit s (visitFieldsOf s)
-unfolding visitFieldsOf refusalsOfBytes refusalsOfNumber recordOfBytes
+unfolding visitFieldsOf refusalsOfBytes refusalsOfRecordNumber recordOfBytes
 is-visit s = go (eqb (length s) recordLength) refl
   where
     go : (x : Bool) → eqb (length s) recordLength ≡ x → visitFieldsOf s .isvisit ≡ true → IsVisit s (visitFieldsOf s)

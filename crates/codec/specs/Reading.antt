@@ -48,8 +48,8 @@ unfoldable pub statusFrom : ℕ → Status
 statusFrom n = pick (eqb n 1) CR (pick (eqb n 2) NN (pick (eqb n 3) PD (pick (eqb n 4) NE NA)))
 
 -- a record with no target set
-abbrev pub untargeted : Entry → Record
-untargeted e = record { entry = e; sizes = 0 ∷ 0 ∷ 0 ∷ 0 ∷ 0 ∷ []; marks = false ∷ false ∷ false ∷ false ∷ false ∷ [] }
+abbrev pub withoutTargets : Entry → Record
+withoutTargets e = record { entry = e; sizes = 0 ∷ 0 ∷ 0 ∷ 0 ∷ 0 ∷ []; marks = false ∷ false ∷ false ∷ false ∷ false ∷ [] }
 
 -- what is read before it is judged: a record, and what has no place in one, a status that is none and spare bits that are set
 abbrev pub baselineFrom : List ℕ → Raw
@@ -81,7 +81,7 @@ abbrev pub visitFrom : List ℕ → Raw
 visitFrom f = rawVisit (visitFieldsFrom f)
 
 abbrev pub spareFrom : Entry → List ℕ → Raw
-spareFrom e f = record { read = untargeted e; badstatus = false; spare = ltb 0 (getD f 4 0) }
+spareFrom e f = record { read = withoutTargets e; badstatus = false; spare = ltb 0 (getD f 4 0) }
 
 unfoldable pub baselineIn : ℕ → Raw
 baselineIn n = baselineFrom (unpack baselineLayout n)
@@ -115,29 +115,29 @@ abbrev pub isKind : ℕ → Bool
 isKind kind = both (leb 1 kind) (leb kind 4)
 
 -- 2, then 3 to 5
-unfoldable pub refusalsOfNumber : ℕ → List Refusal
-refusalsOfNumber n = 2 when not (isKind (kindIn n)) ∷ refusalsOfRaw (rawIn (kindIn n) n)
+unfoldable pub refusalsOfRecordNumber : ℕ → List Refusal
+refusalsOfRecordNumber n = 2 when not (isKind (kindIn n)) ∷ refusalsOfRaw (rawIn (kindIn n) n)
 
 -- 1, then the others
 unfoldable pub refusalsOfBytes : List ℕ → List Refusal
-refusalsOfBytes s = 1 when not (eqb (length s) recordLength) ∷ refusalsOfNumber (bytesNumber s)
+refusalsOfBytes s = 1 when not (eqb (length s) recordLength) ∷ refusalsOfRecordNumber (bytesNumber s)
 
 -- the first that meets, 0 for none
 abbrev pub refusalOfBytes : List ℕ → ℕ
 refusalOfBytes s = first (refusalsOfBytes s)
 
 -- the one record that stands beside every refusal
-abbrev pub blank : Record
-blank = untargeted (Therapy (record { year = 0; month = 0; day = 0 }))
+abbrev pub blankRecord : Record
+blankRecord = withoutTargets (Therapy (record { year = 0; month = 0; day = 0 }))
 
 -- the promise of judging what was read
 pub record JudgesRead (w : Raw) (x : ReadResult) : Type 0 where
   pub answer : readNumber (x .answer) ≡ first (refusalsOfRaw w)
-  pub found : x .found ≡ pick (eqb (first (refusalsOfRaw w)) 0) (w .read) blank
+  pub found : x .found ≡ pick (eqb (first (refusalsOfRaw w)) 0) (w .read) blankRecord
 
 -- the record, or the blank one
 unfoldable pub recordOfBytes : List ℕ → Record
-recordOfBytes s = pick (eqb (refusalOfBytes s) 0) (rawIn (kindIn (bytesNumber s)) (bytesNumber s) .read) blank
+recordOfBytes s = pick (eqb (refusalOfBytes s) 0) (rawIn (kindIn (bytesNumber s)) (bytesNumber s) .read) blankRecord
 
 -- the promise of reading
 pub record Reads (s : List ℕ) (x : ReadResult) : Type 0 where

@@ -14,7 +14,7 @@ ghost use lib.Dec.{ltb};
 ghost use lib.ListN.{length};
 ghost use Rattle.codec.specs.Bytes.{recordLength, bytesNumber};
 ghost use Rattle.codec.specs.Fields.{fieldAt, targetsAt};
-ghost use Rattle.codec.specs.Reading.{isOne, dateIn, marksFrom, sizesFrom, statusFrom, untargeted, blank, baselineIn, visitFieldsIn, visitIn, spareIn, rawIn};
+ghost use Rattle.codec.specs.Reading.{isOne, dateIn, marksFrom, sizesFrom, statusFrom, withoutTargets, blankRecord, baselineIn, visitFieldsIn, visitIn, spareIn, rawIn};
 
 // The bit at which each field starts; kind is at 0.
 const YEAR: u32 = 3;
@@ -178,8 +178,8 @@ fn body_set(s: &[u8]) -> bool
     0 < field(s, 24, 16) || (0 < field(s, 40, 16) || (0 < field(s, 56, 16) || 0 < field(s, 72, 16)))
 }
 
-fn untargeted_record(entry: Entry) -> Record
-    ensures { λ r. ⌜ r ≡ untargeted entry ⌝ }
+fn record_without_targets(entry: Entry) -> Record
+    ensures { λ r. ⌜ r ≡ withoutTargets entry ⌝ }
 {
     Record {
         entry: entry,
@@ -189,9 +189,9 @@ fn untargeted_record(entry: Entry) -> Record
 }
 
 pub(crate) fn blank_record() -> Record
-    ensures { λ r. ⌜ r ≡ blank ⌝ }
+    ensures { λ r. ⌜ r ≡ blankRecord ⌝ }
 {
-    untargeted_record(Entry::Therapy(Date {
+    record_without_targets(Entry::Therapy(Date {
         year: 0,
         month: 0,
         day: 0,
@@ -202,7 +202,7 @@ fn spare_in(s: &[u8], entry: Entry) -> Raw
     requires { ⌜ length (now s) ≡ recordLength ⌝ }
     ensures { λ r. ⌜ r ≡ spareIn entry (bytesNumber (now (s .entry))) ⌝ }
 {
-    let read = untargeted_record(entry);
+    let read = record_without_targets(entry);
     let spare = body_set(s);
     Raw {
         read: read,

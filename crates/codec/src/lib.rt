@@ -9,7 +9,7 @@ use records::VisitEntry;
 ghost use mathlib.Core.Path.{_≡_};
 ghost use Rattle.laws.specs.Refusals.{first};
 ghost use Rattle.records.specs.Refusals.{checkNumber};
-ghost use Rattle.codec.specs.Reading.{isKind, refusalsOfRaw, blank, JudgesRead, Reads, blankVisit, ReadsVisit};
+ghost use Rattle.codec.specs.Reading.{isKind, refusalsOfRaw, blankRecord, JudgesRead, Reads, blankVisit, ReadsVisit};
 ghost use Rattle.codec.specs.declared.Raw.{Raw};
 
 mod fields; // fields.rt: the bits of one field
@@ -57,7 +57,7 @@ pub(crate) struct Raw {
 pub const RECORD_LENGTH: usize = 11;
 
 fn refused(answer: ReadAnswer) -> ReadResult
-    ensures { λ x. ⌜ (x .answer ≡ answer) × (x .found ≡ blank) ⌝ }
+    ensures { λ x. ⌜ (x .answer ≡ answer) × (x .found ≡ blankRecord) ⌝ }
 {
     let found = decode::blank_record();
     ReadResult {

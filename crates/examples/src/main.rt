@@ -4,39 +4,39 @@
 // Opening, adding and reading, with refused additions, a therapy and a missing baseline.
 fn held_subjects() {
     // Baseline with targets 40 and node 20 and non-target disease; visits on days 43 (24, 12), 85 (0, 9) and 127 (0, 15), all NN.
-    history::shown(
+    history::show_history(
         b"the printed example\n",
         b"\x2F\xC8\x21\xD0\x28\x82\x80\x00\x00\x00\x00\x4F\xC8\x4C\x48\x31\x03\x00\x00\x00\x00\x00\x4F\xC8\x79\x48\x01\x02\x40\x00\x00\x00\x00\x4F\xC8\xA6\x48\x01\x03\xC0\x00\x00\x00\x00",
     );
     // The baseline and the first visit of the printed example; refused: a new lesion on day 43 (10), with status NA on day 44 (11), the baseline again (8), eleven
     // zeros, which reading refuses by 2 and adding, as the blank record, by 3, a death on day 42 (10) and a therapy on day 42 (10);
     // visits on days 85 (24, 12) and 127 (24, 30), death on day 130; refused: therapy on day 131 (9).
-    history::shown(
+    history::show_history(
         b"refused additions\n",
         b"\x2F\xC8\x21\xD0\x28\x82\x80\x00\x00\x00\x00\x4F\xC8\x4C\x48\x31\x03\x00\x00\x00\x00\x00\x4F\xC8\x4C\x58\x31\x03\x00\x00\x00\x00\x00\x4F\xC8\x4D\x08\x31\x03\x00\x00\x00\x00\x00\x2F\xC8\x21\xD0\x28\x82\x80\x00\x00\x00\x00\x00\x00\x00\x00\x00\x00\x00\x00\x00\x00\x00\x8F\xC8\x4B\x00\x00\x00\x00\x00\x00\x00\x00\x6F\xC8\x4B\x00\x00\x00\x00\x00\x00\x00\x00\x4F\xC8\x79\x48\x31\x03\x00\x00\x00\x00\x00\x4F\xC8\xA6\x48\x31\x07\x80\x00\x00\x00\x00\x8F\xC8\xA9\x00\x00\x00\x00\x00\x00\x00\x00\x6F\xC8\xAA\x00\x00\x00\x00\x00\x00\x00\x00",
     );
     // The baseline of the printed example; visits on days 43 (24, 12), 85 (24, 12) and 127 (24, 30), therapy on day 50.
-    history::shown(
+    history::show_history(
         b"therapy before the response is confirmed\n",
         b"\x2F\xC8\x21\xD0\x28\x82\x80\x00\x00\x00\x00\x4F\xC8\x4C\x48\x31\x03\x00\x00\x00\x00\x00\x6F\xC8\x53\x00\x00\x00\x00\x00\x00\x00\x00\x4F\xC8\x79\x48\x31\x03\x00\x00\x00\x00\x00\x4F\xC8\xA6\x48\x31\x07\x80\x00\x00\x00\x00",
     );
     // The baseline of the printed example.
-    history::shown(
+    history::show_history(
         b"a baseline alone\n",
         b"\x2F\xC8\x21\xD0\x28\x82\x80\x00\x00\x00\x00",
     );
     // The baseline of the printed example; death on day 92.
-    history::shown(
+    history::show_history(
         b"death without visits\n",
         b"\x2F\xC8\x21\xD0\x28\x82\x80\x00\x00\x00\x00\x8F\xC8\x81\x00\x00\x00\x00\x00\x00\x00\x00",
     );
     // A baseline that is missing; therapy on day 92.
-    history::shown(
+    history::show_history(
         b"baseline missing\n",
         b"\x2F\xC8\x21\x00\x00\x00\x00\x00\x00\x00\x00\x6F\xC8\x81\x00\x00\x00\x00\x00\x00\x00\x00",
     );
     // A baseline that is missing; a visit on day 43 with a new lesion.
-    history::shown(
+    history::show_history(
         b"baseline missing, new lesion\n",
         b"\x2F\xC8\x21\x00\x00\x00\x00\x00\x00\x00\x00\x4F\xC8\x4C\x10\x00\x00\x00\x00\x00\x00\x00",
     );
@@ -45,32 +45,32 @@ fn held_subjects() {
 // Examples 7, 11 and 14, and a confirmed complete response.
 fn edges() {
     // One target of 20; visits on days 43 (0), 60 (not measured) and 71 (0).
-    history::shown(
+    history::show_history(
         b"complete response confirmed\n",
         b"\x2F\xC8\x21\x88\x14\x00\x00\x00\x00\x00\x00\x4F\xC8\x4C\x08\x00\x00\x00\x00\x00\x00\x00\x4F\xC8\x5D\x00\x00\x00\x00\x00\x00\x00\x00\x4F\xC8\x6B\x08\x00\x00\x00\x00\x00\x00\x00",
     );
     // One target of 20; visits on days 162 (20) and 288 (30).
-    history::shown(
+    history::show_history(
         b"example 7, day 288\n",
         b"\x2F\xC8\x21\x88\x14\x00\x00\x00\x00\x00\x00\x4F\xC8\xCA\x08\x28\x00\x00\x00\x00\x00\x00\x4F\xC9\x4E\x08\x3C\x00\x00\x00\x00\x00\x00",
     );
     // One target of 20; visits on days 162 (20) and 289 (30).
-    history::shown(
+    history::show_history(
         b"example 7, day 289\n",
         b"\x2F\xC8\x21\x88\x14\x00\x00\x00\x00\x00\x00\x4F\xC8\xCA\x08\x28\x00\x00\x00\x00\x00\x00\x4F\xC9\x4F\x08\x3C\x00\x00\x00\x00\x00\x00",
     );
     // One target of 20; a visit on day 35 (20).
-    history::shown(
+    history::show_history(
         b"example 11, day 35\n",
         b"\x2F\xC8\x21\x88\x14\x00\x00\x00\x00\x00\x00\x4F\xC8\x44\x08\x28\x00\x00\x00\x00\x00\x00",
     );
     // One target of 20; a visit on day 36 (20).
-    history::shown(
+    history::show_history(
         b"example 11, day 36\n",
         b"\x2F\xC8\x21\x88\x14\x00\x00\x00\x00\x00\x00\x4F\xC8\x45\x08\x28\x00\x00\x00\x00\x00\x00",
     );
     // Targets 70 and 30; visits on days 43 (40, 10) and 85 (62, not measured).
-    history::shown(
+    history::show_history(
         b"example 14\n",
         b"\x2F\xC8\x21\x90\x46\x03\xC0\x00\x00\x00\x00\x4F\xC8\x4C\x08\x51\x02\x80\x00\x00\x00\x00\x4F\xC8\x79\x08\x7C\x00\x00\x00\x00\x00\x00",
     );
@@ -79,12 +79,12 @@ fn edges() {
 // Non-target answers CR, NN, NE and PD, with targets and without.
 fn nontarget_disease() {
     // The baseline of the printed example; visits on days 43 (0, 9), 85, 127 and 169 (all the same), with CR, NE, CR and PD.
-    history::shown(
+    history::show_history(
         b"example 13, and a progression of non-target disease\n",
         b"\x2F\xC8\x21\xD0\x28\x82\x80\x00\x00\x00\x00\x4F\xC8\x4C\x28\x01\x02\x40\x00\x00\x00\x00\x4F\xC8\x79\x88\x01\x02\x40\x00\x00\x00\x00\x4F\xC8\xA6\x28\x01\x02\x40\x00\x00\x00\x00\x4F\xC8\xD1\x68\x01\x02\x40\x00\x00\x00\x00",
     );
     // No targets, non-target disease; visits on days 43 (NN), 85 (CR) and 127 (CR).
-    history::shown(
+    history::show_history(
         b"non-target disease alone\n",
         b"\x2F\xC8\x21\xC0\x00\x00\x00\x00\x00\x00\x00\x4F\xC8\x4C\x40\x00\x00\x00\x00\x00\x00\x00\x4F\xC8\x79\x20\x00\x00\x00\x00\x00\x00\x00\x4F\xC8\xA6\x20\x00\x00\x00\x00\x00\x00\x00",
     );
@@ -93,32 +93,32 @@ fn nontarget_disease() {
 // Progressions and deaths, with gaps before them.
 fn endings() {
     // One target of 20; visits on days 43 (not measured) and 141 (30).
-    history::shown(
+    history::show_history(
         b"gap from a visit that is not evaluable\n",
         b"\x2F\xC8\x21\x88\x14\x00\x00\x00\x00\x00\x00\x4F\xC8\x4C\x00\x00\x00\x00\x00\x00\x00\x00\x4F\xC8\xB4\x08\x3C\x00\x00\x00\x00\x00\x00",
     );
     // One target of 20; visits on days 43 (20) and 200 (20), death on day 200.
-    history::shown(
+    history::show_history(
         b"death on a visit's day\n",
         b"\x2F\xC8\x21\x88\x14\x00\x00\x00\x00\x00\x00\x4F\xC8\x4C\x08\x28\x00\x00\x00\x00\x00\x00\x4F\xC8\xF2\x08\x28\x00\x00\x00\x00\x00\x00\x8F\xC8\xF2\x00\x00\x00\x00\x00\x00\x00\x00",
     );
     // One target of 20; a visit on day 43 (not measured), death on day 93.
-    history::shown(
+    history::show_history(
         b"death on day 93 without an evaluable visit\n",
         b"\x2F\xC8\x21\x88\x14\x00\x00\x00\x00\x00\x00\x4F\xC8\x4C\x00\x00\x00\x00\x00\x00\x00\x00\x8F\xC8\x82\x00\x00\x00\x00\x00\x00\x00\x00",
     );
     // One target of 20; a visit on day 93 (30).
-    history::shown(
+    history::show_history(
         b"progression behind two missed visits\n",
         b"\x2F\xC8\x21\x88\x14\x00\x00\x00\x00\x00\x00\x4F\xC8\x82\x08\x3C\x00\x00\x00\x00\x00\x00",
     );
     // The baseline of the printed example; therapy and death on day 1.
-    history::shown(
+    history::show_history(
         b"therapy and death on day 1\n",
         b"\x2F\xC8\x21\xD0\x28\x82\x80\x00\x00\x00\x00\x6F\xC8\x21\x00\x00\x00\x00\x00\x00\x00\x00\x8F\xC8\x21\x00\x00\x00\x00\x00\x00\x00\x00",
     );
     // One target of 20; a visit on day 43 (20) with a new lesion.
-    history::shown(
+    history::show_history(
         b"a new lesion\n",
         b"\x2F\xC8\x21\x88\x14\x00\x00\x00\x00\x00\x00\x4F\xC8\x4C\x18\x28\x00\x00\x00\x00\x00\x00",
     );
@@ -127,27 +127,27 @@ fn endings() {
 // The change, growth and the nadir.
 fn changes() {
     // Five targets of 500; a visit on day 43 (500, 500, 500, 500, 499), which is -0.04 %.
-    history::shown(
+    history::show_history(
         b"a change that rounds to zero\n",
         b"\x2F\xC8\x21\xA9\xF4\x3E\x87\xD0\xFA\x1F\x40\x4F\xC8\x4C\x0B\xE9\x7D\x2F\xA5\xF4\xBE\x60",
     );
     // Four targets of 500; a visit on day 43 (500, 500, 500, 499), which is -0.05 %.
-    history::shown(
+    history::show_history(
         b"a half tenth, away from zero\n",
         b"\x2F\xC8\x21\xA1\xF4\x3E\x87\xD0\xFA\x00\x00\x4F\xC8\x4C\x0B\xE9\x7D\x2F\xA5\xF3\x00\x00",
     );
     // One target of 200; visits on days 43 (199) and 85 (201).
-    history::shown(
+    history::show_history(
         b"half a percent either way\n",
         b"\x2F\xC8\x21\x88\xC8\x00\x00\x00\x00\x00\x00\x4F\xC8\x4C\x09\x8E\x00\x00\x00\x00\x00\x00\x4F\xC8\x79\x09\x92\x00\x00\x00\x00\x00\x00",
     );
     // One target of 401; a visit on day 43 (481), which is less than 20 % more.
-    history::shown(
+    history::show_history(
         b"growth that is not rounded\n",
         b"\x2F\xC8\x21\x89\x91\x00\x00\x00\x00\x00\x00\x4F\xC8\x4C\x0B\xC2\x00\x00\x00\x00\x00\x00",
     );
     // One target of 100; visits on days 43 (50), 85 (20) and 127 (26), therapy on day 50.
-    history::shown(
+    history::show_history(
         b"nadir after a therapy\n",
         b"\x2F\xC8\x21\x88\x64\x00\x00\x00\x00\x00\x00\x4F\xC8\x4C\x08\x64\x00\x00\x00\x00\x00\x00\x6F\xC8\x53\x00\x00\x00\x00\x00\x00\x00\x00\x4F\xC8\x79\x08\x28\x00\x00\x00\x00\x00\x00\x4F\xC8\xA6\x08\x34\x00\x00\x00\x00\x00\x00",
     );
@@ -156,22 +156,22 @@ fn changes() {
 // Responses before a complete one, and visits after a therapy and after a progression.
 fn later_visits() {
     // One target of 100; visits on days 43 (60), 85 (0) and 127 (0).
-    history::shown(
+    history::show_history(
         b"a partial response before a confirmed complete one\n",
         b"\x2F\xC8\x21\x88\x64\x00\x00\x00\x00\x00\x00\x4F\xC8\x4C\x08\x78\x00\x00\x00\x00\x00\x00\x4F\xC8\x79\x08\x00\x00\x00\x00\x00\x00\x00\x4F\xC8\xA6\x08\x00\x00\x00\x00\x00\x00\x00",
     );
     // One target of 100; visits on days 43 (90), 141 (90) and 200 (200), therapy on day 50. From day 43 two visits would be missed.
-    history::shown(
+    history::show_history(
         b"a visit after a therapy before the progression\n",
         b"\x2F\xC8\x21\x88\x64\x00\x00\x00\x00\x00\x00\x4F\xC8\x4C\x08\xB4\x00\x00\x00\x00\x00\x00\x6F\xC8\x53\x00\x00\x00\x00\x00\x00\x00\x00\x4F\xC8\xB4\x08\xB4\x00\x00\x00\x00\x00\x00\x4F\xC8\xF2\x09\x90\x00\x00\x00\x00\x00\x00",
     );
     // One target of 100; visits on days 43 (90), 85 (90) and 300 (200), therapy on day 50.
-    history::shown(
+    history::show_history(
         b"censored at a visit after a therapy\n",
         b"\x2F\xC8\x21\x88\x64\x00\x00\x00\x00\x00\x00\x4F\xC8\x4C\x08\xB4\x00\x00\x00\x00\x00\x00\x6F\xC8\x53\x00\x00\x00\x00\x00\x00\x00\x00\x4F\xC8\x79\x08\xB4\x00\x00\x00\x00\x00\x00\x4F\xC9\x5A\x09\x90\x00\x00\x00\x00\x00\x00",
     );
     // One target of 100; visits on days 43 (90), 85 (200), 127 (50) and 169 (60), which is a fifth more than the nadir of day 127.
-    history::shown(
+    history::show_history(
         b"visits after a progression\n",
         b"\x2F\xC8\x21\x88\x64\x00\x00\x00\x00\x00\x00\x4F\xC8\x4C\x08\xB4\x00\x00\x00\x00\x00\x00\x4F\xC8\x79\x09\x90\x00\x00\x00\x00\x00\x00\x4F\xC8\xA6\x08\x64\x00\x00\x00\x00\x00\x00\x4F\xC8\xD1\x08\x78\x00\x00\x00\x00\x00\x00",
     );
@@ -181,12 +181,12 @@ fn later_visits() {
 fn several_targets() {
     // Targets 21, 32, 43, 54 and 65, of which the first, third and fifth are nodes, and non-target disease; visits on days 43 (11, 22, not measured, 44, 50), 85 (15, 22,
     // 30, 37, 46), 127 (9, 0, 9, 0, 9) and 169 (9, 6, 9, 0, 9), all NN.
-    history::shown(
+    history::show_history(
         b"five targets, nodes and others in turn\n",
         b"\x2F\xC8\x21\xEC\x15\x04\x10\xAC\x1B\x44\x10\x4F\xC8\x4C\x48\x17\x05\x80\x04\x2C\x86\x40\x4F\xC8\x79\x48\x1F\x05\xA0\xF4\x25\x85\xC0\x4F\xC8\xA6\x48\x13\x00\x20\x4C\x00\x81\x20\x4F\xC8\xD1\x48\x13\x01\xA0\x4C\x00\x81\x20",
     );
     // Targets 30, node 20 and 40; a visit on day 43 (20, 9, 30).
-    history::shown(
+    history::show_history(
         b"three targets\n",
         b"\x2F\xC8\x21\x98\x1E\x82\x80\xA0\x00\x00\x00\x4F\xC8\x4C\x08\x29\x02\x60\xF0\x00\x00\x00",
     );

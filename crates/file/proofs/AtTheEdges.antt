@@ -4,18 +4,18 @@ use mathlib.Core.Path.{refl}
 use Rattle.dates.specs.Calendar.{leapYear, daysInMonth, dateExists, daysOfYears, daysOfMonths, dayNumber}
 use Rattle.dates.specs.Answers.{studyDayOf}
 use Rattle.codec.specs.Parts.{badLength}
-use Rattle.response_rules.specs.SumOfDiameters.{measuredSum, baselineSum, allMeasured}
-use Rattle.response_rules.specs.TargetAnswer.{allGone, grown, shrunk, targetAnswer}
+use Rattle.response_rules.specs.SumOfDiameters.{sumOfDiameters, baselineSum, allMeasured}
+use Rattle.response_rules.specs.TargetAnswer.{allDisappeared, progressionFromNadir, partialResponse, targetAnswer}
 use Rattle.response_rules.specs.Nadir.{afterVisit}
 use Rattle.response_rules.specs.OverallAnswer.{overallBy}
 use Rattle.response_rules.specs.VisitAnswers.{overallAnswer}
-use Rattle.outcome_rules.specs.Course.{answerAt}
+use Rattle.outcome_rules.specs.Course.{overallAt}
 use Rattle.outcome_rules.specs.Pfs.{pfs}
 use Rattle.outcome_rules.specs.BestResponse.{best}
 use Rattle.outcome_rules.specs.Duration.{duration}
 use Rattle.outcome_rules.specs.Settled.{pfsSettledBy, bestSettledBy, durationSettledBy}
 use Rattle.subject.specs.Range.{enrolmentInRange, followUpInRange, inRange}
-use Rattle.subject.specs.Opening.{blank}
+use Rattle.subject.specs.Opening.{blankSubject}
 use Rattle.outcome.specs.ReadingOutcome.{outcomeOf}
 use Rattle.file.specs.Verdict.{startsLate, verdictOf}
 use Rattle.file.specs.Ending.{verdictHeld}
@@ -26,7 +26,7 @@ unfolding verdictOf badLength
 empty-file = record { nothing = refl }
 
 pub late-at-the-edges : LateAtTheEdges
-unfolding leapYear daysInMonth dateExists daysOfYears daysOfMonths dayNumber studyDayOf measuredSum baselineSum allMeasured allGone grown shrunk targetAnswer afterVisit overallBy overallAnswer answerAt pfs best duration pfsSettledBy bestSettledBy durationSettledBy enrolmentInRange followUpInRange inRange blank outcomeOf startsLate verdictHeld
+unfolding leapYear daysInMonth dateExists daysOfYears daysOfMonths dayNumber studyDayOf sumOfDiameters baselineSum allMeasured allDisappeared progressionFromNadir partialResponse targetAnswer afterVisit overallBy overallAnswer overallAt pfs best duration pfsSettledBy bestSettledBy durationSettledBy enrolmentInRange followUpInRange inRange blankSubject outcomeOf startsLate verdictHeld
 late-at-the-edges =
     record {
       before = refl;

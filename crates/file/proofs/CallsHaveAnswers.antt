@@ -22,11 +22,11 @@ use Rattle.codec.proofs.NoRefusalOfBytes.{each-of-bytes}
 use Rattle.codec.proofs.FiveMarksAndSizes.{found-five}
 use Rattle.subject.specs.declared.Subject.{Subject}
 use Rattle.outcome_rules.specs.VisitLines.{VisitLine}
-use Rattle.adding.specs.Promises.{subjectBy, refusalHeld}
+use Rattle.adding.specs.Promises.{subjectBy, refusalOfAddingHeld}
 use Rattle.outcome.proofs.AdditionsHaveAnswers.{some-addition}
 use Rattle.outcome.proofs.CallsHaveAnswers.{opens as some-opening, readable}
 use Rattle.codec.specs.Parts.{badLength, parts, partsOf}
-use Rattle.file.specs.FileAsCalls.{Adds, none, adds, opens, Called}
+use Rattle.file.specs.FileAsCalls.{AddsParts, none, adds, opens, PartsCalled}
 use Rattle.codec.proofs.PartsJoined.{one-part}
 
 -- each number that refuses bytes, and 0, is that of some case of reading's answer
@@ -57,7 +57,7 @@ record Later (u : Subject) (ps : List (List ℕ)) : Type 0 where
   numbers : List ℕ
   responses : List VisitLine
   last : Subject
-  calls : Adds u ps numbers responses last
+  calls : AddsParts u ps numbers responses last
 
 later : (u : Subject) (n : ℕ) (s : List ℕ) → AreBytes s → Later u (parts n s)
 later u zero s h = record { numbers = _; responses = _; last = u; calls = none }
@@ -65,18 +65,18 @@ later u (suc n) s h =
     let read = some-read (take recordLength s) (take-bytes s h recordLength) in
     let found = read .0 .found in
     let now = some-addition u found in
-    let rest = later (subjectBy u found (refusalHeld u found)) n (drop recordLength s) (drop-bytes s h recordLength) in
+    let rest = later (subjectBy u found (refusalOfAddingHeld u found)) n (drop recordLength s) (drop-bytes s h recordLength) in
     record { numbers = _; responses = _; last = rest .last; calls = adds {a = now .0} (read .1) (now .1) (rest .calls) }
 
 -- the first part opens
-from-first : (n : ℕ) (s : List ℕ) → AreBytes s → Called (parts (suc n) s)
+from-first : (n : ℕ) (s : List ℕ) → AreBytes s → PartsCalled (parts (suc n) s)
 from-first n s h =
     let part = take recordLength s in
     let read = some-read part (take-bytes s h recordLength) in
     let opening = some-opening (read .0 .found) (subst Five (sym (read .1 .found)) (found-five part)) in
     let rest = later (opening .1) n (drop recordLength s) (drop-bytes s h recordLength) in
-    let told = readable (rest .last) in
-    record { numbers = _; responses = _; left = rest .last; singly = opens (read .1) (opening .2) (rest .calls); told = told .0; reads = told .1 }
+    let reading = readable (rest .last) in
+    record { numbers = _; responses = _; left = rest .last; calls = opens (read .1) (opening .2) (rest .calls); reading = reading .0; reads = reading .1 }
 
-pub called : (s : List ℕ) → AreBytes s → badLength (length s) ≡ false → Called (partsOf s)
-called s h fair = subst (λ (n : ℕ). Called (parts n s)) (sym (one-part s fair)) (from-first (length s / recordLength - 1) s h)
+pub called : (s : List ℕ) → AreBytes s → badLength (length s) ≡ false → PartsCalled (partsOf s)
+called s h fair = subst (λ (n : ℕ). PartsCalled (parts n s)) (sym (one-part s fair)) (from-first (length s / recordLength - 1) s h)

@@ -24,16 +24,16 @@ use Rattle.outcome_rules.specs.VisitLines.{VisitLine, linesInOrder}
 use Rattle.outcome_rules.specs.Adding.{refusalsOfOpening, refusalOfOpening, refusalsOfAdding}
 use Rattle.subject.specs.declared.Subject.{Subject}
 use Rattle.subject.specs.declared.OpenAnswer.{OpenAnswer}
-use Rattle.subject.specs.Opening.{openNumber, Opened}
+use Rattle.subject.specs.Opening.{openNumber, Opens}
 use Rattle.adding.specs.declared.AddAnswer.{AddAnswer}
 use Rattle.adding.specs.Responses.{addResponses}
 use Rattle.adding.specs.Refusals.{addNumber}
-use Rattle.adding.specs.Promises.{Added}
+use Rattle.adding.specs.Promises.{Adds}
 use Rattle.outcome.specs.declared.OutcomeAnswer.{OutcomeAnswer}
-use Rattle.outcome.specs.ReadingOutcome.{outcome, readingValues, Told}
+use Rattle.outcome.specs.ReadingOutcome.{outcome, readingValues, ReadsOutcome}
 use Rattle.codec.specs.Parts.{badLength, partsOf}
 use Rattle.file.specs.Verdict.{refusalOfPart, Verdict, refused, accepted, verdictOn, verdictFrom, verdictOf}
-use Rattle.file.specs.FileAsCalls.{numberOf, Adds, none, adds, Singly, opens, Stop, never, at, firstRefusal, AsSingly}
+use Rattle.file.specs.FileAsCalls.{firstNumber, AddsParts, none, adds, CallsOnParts, opens, Stop, never, at, firstStop, FileAsCalls}
 use Rattle.file.proofs.VerdictsApart.{apart, accepted-same}
 use Rattle.codec.proofs.PartsJoined.{length-parts, cut}
 use Rattle.file.proofs.CallsHaveAnswers.{called}
@@ -41,20 +41,20 @@ use Rattle.file.proofs.FileFollowsRecords.{Taken, none-read, alone, ope
 
 -- reading's number, then the other, is the part's refusal
 read-then : (part : List ℕ) (x : ReadResult) (n : ℕ) (others : List Refusal) → Reads part x → n ≡ first others →
-    numberOf x n ≡ first (refusalsOfBytes part ++ others)
+    firstNumber x n ≡ first (refusalsOfBytes part ++ others)
 read-then part x n others w e = (λ i. pick (eqb (w .answer i) 0) (e i) (w .answer i)) ∙ sym (after-reading part others)
 
-module _ {rs : List Record} {s t : Subject} {part : List ℕ} {x : ReadResult} {a : AddAnswer} (h : Taken rs s) (w : Reads part x) (v : Added s (x .found) a t) where
+module _ {rs : List Record} {s t : Subject} {part : List ℕ} {x : ReadResult} {a : AddAnswer} (h : Taken rs s) (w : Reads part x) (v : Adds s (x .found) a t) where
   abbrev r : Record
   r = recordOfBytes part
 
-  added-found : Added s r a t
-  added-found = subst (λ (y : Record). Added s y a t) (w .found) v
+  added-found : Adds s r a t
+  added-found = subst (λ (y : Record). Adds s y a t) (w .found) v
 
-  adds-number : numberOf x (addNumber a) ≡ refusalOfPart rs part
+  adds-number : firstNumber x (addNumber a) ≡ refusalOfPart rs part
   adds-number = read-then part x (addNumber a) (refusalsOfAdding rs r) w (adding h r added-found) ∙ rw (h .opens)
 
-  module _ (z : numberOf x (addNumber a) ≡ 0) where
+  module _ (z : firstNumber x (addNumber a) ≡ 0) where
     adds-done : addNumber a ≡ 0
     adds-done =
         adding h r added-found
@@ -78,8 +78,8 @@ abbrev EndedBy : Stop → List Record → ℕ → List (List ℕ) → List Visit
 EndedBy never rs k ps ls v t = Ended rs k ps ls v t
 EndedBy (at n j) rs k ps ls v t = v ≡ refused n j
 
-later-parts : (rs : List Record) (k : ℕ) {s t : Subject} {ps : List (List ℕ)} {ns : List ℕ} {ls : List VisitLine} → Taken rs s → Adds s ps ns ls t →
-    EndedBy (firstRefusal k ns) rs k ps ls (verdictFrom rs k ps) t
+later-parts : (rs : List Record) (k : ℕ) {s t : Subject} {ps : List (List ℕ)} {ns : List ℕ} {ls : List VisitLine} → Taken rs s → AddsParts s ps ns ls t →
+    EndedBy (firstStop k ns) rs k ps ls (verdictFrom rs k ps) t
 later-parts rs k h none =
     record {
       all = rs;
@@ -89,12 +89,12 @@ later-parts rs k h none =
       lines = sym (append-nil (linesInOrder (onStudyDays rs)));
     }
 later-parts rs k {t = u} h (adds {t = t} {part = part} {x = x} {a = a} {ps = ps} {ns = ns} {ls = ls} w v c) =
-    go (eqb (numberOf x (addNumber a)) 0) refl (λ m. later-parts (rs ++ (recordOfBytes part ∷ [])) (suc k) m c)
+    go (eqb (firstNumber x (addNumber a)) 0) refl (λ m. later-parts (rs ++ (recordOfBytes part ∷ [])) (suc k) m c)
   where
-    number-here : numberOf x (addNumber a) ≡ refusalOfPart rs part
+    number-here : firstNumber x (addNumber a) ≡ refusalOfPart rs part
     number-here = adds-number h w v
 
-    one-on : numberOf x (addNumber a) ≡ 0 → (stop : Stop) →
+    one-on : firstNumber x (addNumber a) ≡ 0 → (stop : Stop) →
         EndedBy stop (rs ++ (recordOfBytes part ∷ [])) (suc k) ps ls (verdictFrom (rs ++ (recordOfBytes part ∷ [])) (suc k) ps) u →
         EndedBy stop rs k (part ∷ ps) (addResponses a ++ ls) (verdictFrom (rs ++ (recordOfBytes part ∷ [])) (suc k) ps) u
     one-on z never e =
@@ -109,34 +109,34 @@ later-parts rs k {t = u} h (adds {t = t} {part = part} {x = x} {a = a} {ps = ps}
         }
     one-on z (at n j) e = e
 
-    go : (b : Bool) → eqb (numberOf x (addNumber a)) 0 ≡ b →
+    go : (b : Bool) → eqb (firstNumber x (addNumber a)) 0 ≡ b →
         (Taken (rs ++ (recordOfBytes part ∷ [])) t →
-        EndedBy (firstRefusal (suc k) ns) (rs ++ (recordOfBytes part ∷ [])) (suc k) ps ls (verdictFrom (rs ++ (recordOfBytes part ∷ [])) (suc k) ps) u) →
-        EndedBy (pick b (firstRefusal (suc k) ns) (at (numberOf x (addNumber a)) k)) rs k (part ∷ ps) (addResponses a ++ ls) (verdictFrom rs k (part ∷ ps)) u
+        EndedBy (firstStop (suc k) ns) (rs ++ (recordOfBytes part ∷ [])) (suc k) ps ls (verdictFrom (rs ++ (recordOfBytes part ∷ [])) (suc k) ps) u) →
+        EndedBy (pick b (firstStop (suc k) ns) (at (firstNumber x (addNumber a)) k)) rs k (part ∷ ps) (addResponses a ++ ls) (verdictFrom rs k (part ∷ ps)) u
     go true q next =
-        let z = eqb-true (numberOf x (addNumber a)) 0 q in
+        let z = eqb-true (firstNumber x (addNumber a)) 0 q in
         let passes : eqb (refusalOfPart rs part) 0 ≡ true = eq-eqb _ 0 (sym number-here ∙ z) in
-        rw passes (one-on z (firstRefusal (suc k) ns) (next (adds-taken h w v z)))
+        rw passes (one-on z (firstStop (suc k) ns) (next (adds-taken h w v z)))
     go false q next =
         let stops : eqb (refusalOfPart rs part) 0 ≡ false = ap (λ (n : ℕ). eqb n 0) (sym number-here) ∙ q in
         rw stops (ap (λ (n : ℕ). refused n k) (sym number-here))
 
 -- the whole file, by its first part
 module _ {s u : Subject} {part : List ℕ} {x : ReadResult} {a : OpenAnswer} {ps : List (List ℕ)} {ns : List ℕ} {ls : List VisitLine}
-    (w : Reads part x) (v : Opened (x .found) a s) (c : Adds s ps ns ls u) where
-  opening : numberOf x (openNumber a) ≡ refusalOfPart [] part
+    (w : Reads part x) (v : Opens (x .found) a s) (c : AddsParts s ps ns ls u) where
+  opening : firstNumber x (openNumber a) ≡ refusalOfPart [] part
   opening = read-then part x (openNumber a) (refusalsOfOpening (recordOfBytes part)) w (v .answer ∙ ap refusalOfOpening (w .found))
 
-  opened : numberOf x (openNumber a) ≡ 0 → Taken (recordOfBytes part ∷ []) s
+  opened : firstNumber x (openNumber a) ≡ 0 → Taken (recordOfBytes part ∷ []) s
   unfolding refusalsOfOpening
   opened z =
       let r = recordOfBytes part in
       let passes = none-read part (refusalsOfOpening r) (sym opening ∙ z) .1 in
-      let found : Opened r a s = subst (λ (y : Record). Opened y a s) (w .found) v in
+      let found : Opens r a s = subst (λ (y : Record). Opens y a s) (w .found) v in
       opened-taken (r .entry) (r .marks) (r .sizes) found (found .answer ∙ passes) (none-after-own r _ .0 passes .1)
 
-  all-parts : EndedBy (firstRefusal 0 (numberOf x (openNumber a) ∷ ns)) [] 0 (part ∷ ps) ls (verdictFrom [] 0 (part ∷ ps)) u
-  all-parts = go (eqb (numberOf x (openNumber a)) 0) refl (λ h. later-parts (recordOfBytes part ∷ []) 1 h c)
+  all-parts : EndedBy (firstStop 0 (firstNumber x (openNumber a) ∷ ns)) [] 0 (part ∷ ps) ls (verdictFrom [] 0 (part ∷ ps)) u
+  all-parts = go (eqb (firstNumber x (openNumber a)) 0) refl (λ h. later-parts (recordOfBytes part ∷ []) 1 h c)
     where
       one-on : (stop : Stop) → EndedBy stop (recordOfBytes part ∷ []) 1 ps ls (verdictFrom (recordOfBytes part ∷ []) 1 ps) u →
           EndedBy stop [] 0 (part ∷ ps) ls (verdictFrom (recordOfBytes part ∷ []) 1 ps) u
@@ -152,41 +152,41 @@ module _ {s u : Subject} {part : List ℕ} {x : ReadResult} {a : OpenAnswer} {ps
           }
       one-on (at n j) e = e
 
-      go : (b : Bool) → eqb (numberOf x (openNumber a)) 0 ≡ b →
-          (Taken (recordOfBytes part ∷ []) s → EndedBy (firstRefusal 1 ns) (recordOfBytes part ∷ []) 1 ps ls (verdictFrom (recordOfBytes part ∷ []) 1 ps) u) →
-          EndedBy (pick b (firstRefusal 1 ns) (at (numberOf x (openNumber a)) 0)) [] 0 (part ∷ ps) ls (verdictFrom [] 0 (part ∷ ps)) u
+      go : (b : Bool) → eqb (firstNumber x (openNumber a)) 0 ≡ b →
+          (Taken (recordOfBytes part ∷ []) s → EndedBy (firstStop 1 ns) (recordOfBytes part ∷ []) 1 ps ls (verdictFrom (recordOfBytes part ∷ []) 1 ps) u) →
+          EndedBy (pick b (firstStop 1 ns) (at (firstNumber x (openNumber a)) 0)) [] 0 (part ∷ ps) ls (verdictFrom [] 0 (part ∷ ps)) u
       go true q next =
-          let z = eqb-true (numberOf x (openNumber a)) 0 q in
+          let z = eqb-true (firstNumber x (openNumber a)) 0 q in
           let passes : eqb (refusalOfPart [] part) 0 ≡ true = eq-eqb _ 0 (sym opening ∙ z) in
-          rw passes (one-on (firstRefusal 1 ns) (next (opened z)))
+          rw passes (one-on (firstStop 1 ns) (next (opened z)))
       go false q next =
           let stops : eqb (refusalOfPart [] part) 0 ≡ false = ap (λ (n : ℕ). eqb n 0) (sym opening) ∙ q in
           rw stops (ap (λ (n : ℕ). refused n 0) (sym opening))
 
-by-parts : {ps : List (List ℕ)} {ns : List ℕ} {ls : List VisitLine} {t : Subject} → Singly ps ns ls t → EndedBy (firstRefusal 0 ns) [] 0 ps ls (verdictFrom [] 0 ps) t
+by-parts : {ps : List (List ℕ)} {ns : List ℕ} {ls : List VisitLine} {t : Subject} → CallsOnParts ps ns ls t → EndedBy (firstStop 0 ns) [] 0 ps ls (verdictFrom [] 0 ps) t
 by-parts (opens w v c) = all-parts w v c
 
-module _ (s : List ℕ) {ns : List ℕ} {ls : List VisitLine} {t : Subject} (c : Singly (partsOf s) ns ls t) where
-  judged : badLength (length s) ≡ false → EndedBy (firstRefusal 0 ns) [] 0 (partsOf s) ls (verdictOf s) t
+module _ (s : List ℕ) {ns : List ℕ} {ls : List VisitLine} {t : Subject} (c : CallsOnParts (partsOf s) ns ls t) where
+  judged : badLength (length s) ≡ false → EndedBy (firstStop 0 ns) [] 0 (partsOf s) ls (verdictOf s) t
   unfolding verdictOf
   judged fair = rw fair (by-parts c)
 
-  refuses : {n k : ℕ} → badLength (length s) ≡ false → firstRefusal 0 ns ≡ at n k → verdictOf s ≡ refused n k
+  refuses : {n k : ℕ} → badLength (length s) ≡ false → firstStop 0 ns ≡ at n k → verdictOf s ≡ refused n k
   refuses fair e = subst (λ (stop : Stop). EndedBy stop [] 0 (partsOf s) ls (verdictOf s) t) e (judged fair)
 
-  module _ (fair : badLength (length s) ≡ false) (e : firstRefusal 0 ns ≡ never) where
+  module _ (fair : badLength (length s) ≡ false) (e : firstStop 0 ns ≡ never) where
     end : Ended [] 0 (partsOf s) ls (verdictOf s) t
     end = subst (λ (stop : Stop). EndedBy stop [] 0 (partsOf s) ls (verdictOf s) t) e (judged fair)
 
     same-lines : linesInOrder (onStudyDays (map recordOfBytes (partsOf s))) ≡ ls
     same-lines = ap (λ (l : List Record). linesInOrder (onStudyDays l)) (sym (end .whole)) ∙ end .lines
 
-    otherwise : {q : OutcomeAnswer} → Told t q → EndsBy (verdictOf s) (length s / recordLength - 1) q
+    otherwise : {q : OutcomeAnswer} → ReadsOutcome t q → EndsBy (verdictOf s) (length s / recordLength - 1) q
     otherwise w =
         let same : 0 + length (partsOf s) - 1 ≡ length s / recordLength - 1 = omega (arith, length-parts (length s / recordLength) s) in
         rw (end .verdict ∙ ap (verdictOn (onStudyDays (end .all))) same) (told-verdict (end .taken) (length s / recordLength - 1) w)
 
-module _ (s : List ℕ) {ns : List ℕ} {ls : List VisitLine} {t : Subject} {q : OutcomeAnswer} {o : Outcome} (e : verdictOf s ≡ accepted o) (c : Singly (partsOf s) ns ls t) (w : Told t q) where
+module _ (s : List ℕ) {ns : List ℕ} {ls : List VisitLine} {t : Subject} {q : OutcomeAnswer} {o : Outcome} (e : verdictOf s ≡ accepted o) (c : CallsOnParts (partsOf s) ns ls t) (w : ReadsOutcome t q) where
   fair : badLength (length s) ≡ false
   unfolding verdictOf
   fair = go (badLength (length s)) refl
@@ -195,16 +195,16 @@ module _ (s : List ℕ) {ns : List ℕ} {ls : List VisitLine} {t : Subject} {q :
       go false h = refl
       go true h = absurd (let z : refused 13 0 ≡ accepted o = rw h at e in apart refl z)
 
-  accepts : (firstRefusal 0 ns ≡ never) × (readingValues q ≡ outcome o) × (linesInOrder (onStudyDays (map recordOfBytes (partsOf s))) ≡ ls)
-  accepts = go (firstRefusal 0 ns) refl
+  accepts : (firstStop 0 ns ≡ never) × (readingValues q ≡ outcome o) × (linesInOrder (onStudyDays (map recordOfBytes (partsOf s))) ≡ ls)
+  accepts = go (firstStop 0 ns) refl
     where
-      go : (stop : Stop) → firstRefusal 0 ns ≡ stop → (stop ≡ never) × (readingValues q ≡ outcome o) × (linesInOrder (onStudyDays (map recordOfBytes (partsOf s))) ≡ ls)
+      go : (stop : Stop) → firstStop 0 ns ≡ stop → (stop ≡ never) × (readingValues q ≡ outcome o) × (linesInOrder (onStudyDays (map recordOfBytes (partsOf s))) ≡ ls)
       go never h =
           (refl, ⊎-elim (λ late. absurd (apart late e)) (λ read. read .1 ∙ ap outcome (accepted-same (sym (read .2) ∙ e))) (otherwise s c fair h w), same-lines s c fair h)
       go (at n k) h = absurd (apart (refuses s c fair h) e)
 
-pub as-singly : AsSingly
-as-singly =
+pub file-as-calls : FileAsCalls
+file-as-calls =
     record {
       cut = cut;
       called = called;

@@ -24,30 +24,30 @@ use Rattle.codec.proofs.FiveMarksAndSizes.{found-five}
 use Rattle.outcome_rules.specs.Values.{Outcome, dayValue}
 use Rattle.outcome_rules.specs.StudyRecords.{Baseline, baseline, fieldsPass, entryOnStudyDay, onStudyDays}
 use Rattle.outcome_rules.specs.LawfulLists.{Past}
-use Rattle.outcome_rules.specs.Course.{course, counting}
+use Rattle.outcome_rules.specs.Course.{course, countingVisits}
 use Rattle.outcome_rules.specs.Duration.{firstResponse}
-use Rattle.outcome_rules.specs.VisitLines.{VisitLine, linesOf, visitLines, linesInOrder}
+use Rattle.outcome_rules.specs.VisitLines.{VisitLine, linesOfRecord, visitLines, linesInOrder}
 use Rattle.outcome_rules.specs.Adding.{notBaseline, refusalsOfOpening, refusalsOfAdding, refusalOfAdding}
 use Rattle.outcome_rules.proofs.AddingRefusals.{own-passed}
 use Rattle.subject.specs.declared.Subject.{Subject}
-use Rattle.subject.specs.Summary.{countedOf, summary}
+use Rattle.subject.specs.Summary.{countingOf, summary}
 use Rattle.subject.proofs.HeldFollowsVisits.{day-of-maybe}
 use Rattle.subject.specs.declared.OpenAnswer.{OpenAnswer}
 use Rattle.subject.specs.declared.OpenAnswer.the-variants as N
-use Rattle.subject.specs.Opening.{openNumber, subjectOf, openedSubject, Opened, OpensBytes}
+use Rattle.subject.specs.Opening.{openNumber, subjectOfEntry, openedSubject, Opens, OpensBytes}
 use Rattle.subject.proofs.HeldAfterBaseline.{opening-follows}
 use Rattle.adding.specs.declared.AddAnswer.{AddAnswer}
 use Rattle.adding.specs.Responses.{addResponses}
 use Rattle.adding.specs.Refusals.{addNumber}
-use Rattle.adding.specs.Promises.{Added, AddedBytes}
+use Rattle.adding.specs.Promises.{Adds, AddsBytes}
 use Rattle.outcome.specs.declared.OutcomeAnswer.{OutcomeAnswer}
-use Rattle.outcome.specs.ReadingOutcome.{pfsHeld, durationHeld, outcomeOf, outcome, readingValues, Told}
+use Rattle.outcome.specs.ReadingOutcome.{pfsHeld, durationHeld, outcomeOf, outcome, readingValues, ReadsOutcome}
 use Rattle.outcome.proofs.CallsFollowRecords.{pfs-held, duration-held, outcome-held}
 use Rattle.outcome.proofs.CallsInRange.{calls-in-range, reading-in-range}
 use Rattle.outcome.proofs.Demand3.{opened-with, base, on-day, past, past-one-more, Held, number, responses, grown}
 use Rattle.file.specs.declared.FileAnswer.{FileAnswer}
 use Rattle.file.specs.Verdict.{refusalOfPart, Verdict, refused, accepted, unlessRefused, startsLate, verdictOn, fileValues}
-use Rattle.file.specs.Ending.{verdictHeld, Ends}
+use Rattle.file.specs.Ending.{verdictHeld, EndsFile}
 
 -- the subject is what is held after the records, which open with a baseline that 4 and 5 do not meet
 pub record Taken (rs : List Record) (s : Subject) : Type 0 where
@@ -60,7 +60,7 @@ pub record Taken (rs : List Record) (s : Subject) : Type 0 where
   pub passes : fieldsPass (baseline (base entry marks sizes)) ≡ true
 
 -- one record more that adding accepts
-pub taken-more : {rs : List Record} {s t : Subject} {a : AddAnswer} (h : Taken rs s) (r : Record) → Added s r a t →
+pub taken-more : {rs : List Record} {s t : Subject} {a : AddAnswer} (h : Taken rs s) (r : Record) → Adds s r a t →
     eqb (refusalOfAdding (opened-with (h .entry) (h .marks) (h .sizes) ∷ h .later) r) 0 ≡ true → Taken (rs ++ (r ∷ [])) t
 taken-more h r added accepts =
     record {
@@ -86,11 +86,11 @@ alone d (E.Visit v) marks sizes = refl
 alone d (E.Therapy x) marks sizes = refl
 alone d (E.Death x) marks sizes = refl
 
-pub opened-taken : {a : OpenAnswer} {s : Subject} (e : Entry) (marks : List Bool) (sizes : List ℕ) → Opened (record { entry = e; sizes = sizes; marks = marks }) a s →
+pub opened-taken : {a : OpenAnswer} {s : Subject} (e : Entry) (marks : List Bool) (sizes : List ℕ) → Opens (record { entry = e; sizes = sizes; marks = marks }) a s →
     openNumber a ≡ 0 → first (7 when notBaseline e ∷ []) ≡ 0 → Taken (record { entry = e; sizes = sizes; marks = marks } ∷ []) s
 unfolding openedSubject refusalsOfOpening
 opened-taken (E.Baseline x) marks sizes w z n =
-    let made : openedSubject (opened-with x marks sizes) ≡ subjectOf (E.Baseline x) marks sizes = rw (← w .answer, z) in
+    let made : openedSubject (opened-with x marks sizes) ≡ subjectOfEntry (E.Baseline x) marks sizes = rw (← w .answer, z) in
     record {
       entry = x;
       marks = marks;
@@ -109,13 +109,13 @@ unfolding refusalsOfOpening
 first-taken part a s w z =
     let r = recordOfBytes part in
     let none = none-read part (refusalsOfOpening r) (sym (w .answer) ∙ z) .1 in
-    let opened : Opened r N.Done s = record { answer = sym none; made = w .made; five = found-five part } in
+    let opened : Opens r N.Done s = record { answer = sym none; made = w .made; five = found-five part } in
     opened-taken (r .entry) (r .marks) (r .sizes) opened refl
     (none-after-own r _ .0 none .1)
 
 -- ---- a later record
 
-module _ {rs : List Record} {s t : Subject} {a : AddAnswer} (h : Taken rs s) (r : Record) (w : Added s r a t) where
+module _ {rs : List Record} {s t : Subject} {a : AddAnswer} (h : Taken rs s) (r : Record) (w : Adds s r a t) where
   pub adding : addNumber a ≡ refusalOfAdding rs r
   adding = number (h .entry) (h .marks) (h .sizes) (h .later) r (h .held) w ∙ ap (λ (l : List Record). refusalOfAdding l r) (sym (h .opens))
 
@@ -131,13 +131,13 @@ module _ {rs : List Record} {s t : Subject} {a : AddAnswer} (h : Taken rs s) (r 
       let b = base (h .entry) (h .marks) (h .sizes) in
       let p = past (h .entry) (h .marks) (h .sizes) (h .later) in
       let next = on-day (h .entry) (h .marks) (h .sizes) r in
-      let answered : addResponses a ≡ linesOf b p next = responses (h .entry) (h .marks) (h .sizes) (h .later) r (h .held) w ∙ rw (accepts z) in
+      let answered : addResponses a ≡ linesOfRecord b p next = responses (h .entry) (h .marks) (h .sizes) (h .later) r (h .held) w ∙ rw (accepts z) in
       ap (λ (l : List Record). linesInOrder (onStudyDays (l ++ (r ∷ [])))) (h .opens)
       ∙ ap (visitLines b) (past-one-more (h .entry) (h .marks) (h .sizes) (h .later) r)
       ∙ ap (λ (l : List VisitLine). visitLines b p ++ l) (sym answered)
       ∙ ap (λ (l : List Record). linesInOrder (onStudyDays l) ++ addResponses a) (sym (h .opens))
 
-module _ {rs : List Record} {s t : Subject} {part : List ℕ} {a : AddAnswer} (h : Taken rs s) (w : AddedBytes s part a t) where
+module _ {rs : List Record} {s t : Subject} {part : List ℕ} {a : AddAnswer} (h : Taken rs s) (w : AddsBytes s part a t) where
   abbrev r : Record
   r = recordOfBytes part
 
@@ -152,7 +152,7 @@ module _ {rs : List Record} {s t : Subject} {part : List ℕ} {a : AddAnswer} (h
   later-number = read-then ∙ rw (h .opens)
 
   -- done, so that the bytes were read
-  pub later-added : addNumber a ≡ 0 → Added s r a t
+  pub later-added : addNumber a ≡ 0 → Adds s r a t
   later-added z = calls-in-range .fromBytes w (none-read part (refusalsOfAdding rs r) (sym read-then ∙ z) .0)
 
 -- ---- behind the last record
@@ -172,15 +172,15 @@ module _ {rs : List Record} {s : Subject} (t : Taken rs s) (last : ℕ) where
   held = summary (t .entry .date) b p
 
   abbrev verdictIn : Subject → Verdict
-  verdictIn u = unlessRefused (14 when startsLate (durationHeld u) (dayValue (u .followup .counted .firstresponse)) (pfsHeld u) ∷ []) last (accepted (outcomeOf u))
+  verdictIn u = unlessRefused (14 when startsLate (durationHeld u) (dayValue (u .followup .counting .firstresponse)) (pfsHeld u) ∷ []) last (accepted (outcomeOf u))
 
   inside : verdictHeld s last ≡ verdictIn s
   unfolding verdictHeld
   inside = rw (t .held .inside)
 
-  first-held : dayValue (held .followup .counted .firstresponse) ≡ firstResponse (counting (course b p))
-  unfolding summary countedOf
-  first-held = day-of-maybe (firstResponse (counting (course b p)))
+  first-held : dayValue (held .followup .counting .firstresponse) ≡ firstResponse (countingVisits (course b p))
+  unfolding summary countingOf
+  first-held = day-of-maybe (firstResponse (countingVisits (course b p)))
 
   verdict-held : verdictIn held ≡ verdictOn (onStudyDays (opened-with (t .entry) (t .marks) (t .sizes) ∷ t .later)) last
   verdict-held =
@@ -191,12 +191,12 @@ module _ {rs : List Record} {s : Subject} (t : Taken rs s) (last : ℕ) where
   verdict-taken : verdictIn s ≡ verdictOn (onStudyDays rs) last
   verdict-taken = ap verdictIn (t .held .same) ∙ verdict-held ∙ ap (λ (l : List Record). verdictOn (onStudyDays l) last) (sym (t .opens))
 
-  pub told-verdict : {q : OutcomeAnswer} → Told s q → EndsBy (verdictOn (onStudyDays rs) last) last q
-  told-verdict {q} w = rw (← verdict-taken) (go (startsLate (durationHeld s) (dayValue (s .followup .counted .firstresponse)) (pfsHeld s)))
+  pub told-verdict : {q : OutcomeAnswer} → ReadsOutcome s q → EndsBy (verdictOn (onStudyDays rs) last) last q
+  told-verdict {q} w = rw (← verdict-taken) (go (startsLate (durationHeld s) (dayValue (s .followup .counting .firstresponse)) (pfsHeld s)))
     where
       go : (late : Bool) → EndsBy (unlessRefused (14 when late ∷ []) last (accepted (outcomeOf s))) last q
       go true = inl refl
       go false = inr (outcomeOf s, w .answer ∙ reading-in-range s (t .held .inside), refl)
 
-  pub ending : (a : FileAnswer) → Ends s last a → fileValues a ≡ verdictOn (onStudyDays rs) last
+  pub ending : (a : FileAnswer) → EndsFile s last a → fileValues a ≡ verdictOn (onStudyDays rs) last
   ending a w = w .answer ∙ inside ∙ verdict-taken

@@ -18,11 +18,11 @@ use Rattle.subject.specs.Range.{inRange}
 use Rattle.outcome.specs.declared.OutcomeAnswer.{OutcomeAnswer}
 use Rattle.outcome.specs.declared.OutcomeAnswer.the-variants as R
 use Rattle.outcome.specs.declared.OutcomeResult.{OutcomeResult}
-use Rattle.outcome.specs.ReadingOutcome.{Reading, refused, outcome, outcomeValues, pfsHeld, durationHeld, outcomeOf, readingOf, Told}
+use Rattle.outcome.specs.ReadingOutcome.{Reading, refused, outcome, outcomeValues, pfsHeld, durationHeld, outcomeOf, readingOf, ReadsOutcome}
 use Rattle.file.specs.declared.FileAnswer.{FileAnswer}
 use Rattle.file.specs.declared.FileAnswer.the-variants as F
 use Rattle.file.specs.Verdict.{refused as stopped, accepted, isAfter, startsLate, fileValues}
-use Rattle.file.specs.Ending.{verdictHeld, Ends}
+use Rattle.file.specs.Ending.{verdictHeld, EndsFile}
 
 -- ---- 14
 
@@ -59,14 +59,14 @@ read-in-range s = go (inRange s)
     go false = refl
 
 module _ (s : Subject) (last : ℕ) where
-  pub ends-outside : (a : FileAnswer) (o : OutcomeAnswer) → Told s o → o ≡ R.OutOfRange → fileValues a ≡ stopped 12 last → Ends s last a
+  pub ends-outside : (a : FileAnswer) (o : OutcomeAnswer) → ReadsOutcome s o → o ≡ R.OutOfRange → fileValues a ≡ stopped 12 last → EndsFile s last a
   unfolding verdictHeld
   ends-outside a o w q e =
       let outside : inRange s ≡ false = sym (read-in-range s) ∙ ap isRead (sym (w .answer)) ∙ rw q in
       record { answer = e ∙ rw outside }
 
-  module _ (o : OutcomeAnswer) (r : OutcomeResult) (w : Told s o) (q : o ≡ R.Read r) (x : Bool)
-      (e : x ≡ startsLate (durationValues (r .duration)) (dayValue (s .followup .counted .firstresponse)) (pfsValues (r .pfs))) where
+  module _ (o : OutcomeAnswer) (r : OutcomeResult) (w : ReadsOutcome s o) (q : o ≡ R.Read r) (x : Bool)
+      (e : x ≡ startsLate (durationValues (r .duration)) (dayValue (s .followup .counting .firstresponse)) (pfsValues (r .pfs))) where
     inside : inRange s ≡ true
     inside = sym (read-in-range s) ∙ ap isRead (sym (w .answer)) ∙ rw q
 
@@ -77,14 +77,14 @@ module _ (s : Subject) (last : ℕ) where
         let whole : outcome (outcomeValues r) ≡ outcome (outcomeOf s) = told ∙ rw inside in
         ap (outcomeIn (outcomeOf s)) whole
 
-    late-held : x ≡ startsLate (durationHeld s) (dayValue (s .followup .counted .firstresponse)) (pfsHeld s)
+    late-held : x ≡ startsLate (durationHeld s) (dayValue (s .followup .counting .firstresponse)) (pfsHeld s)
     unfolding outcomeOf
-    late-held = e ∙ (λ i. startsLate (read-outcome i .duration) (dayValue (s .followup .counted .firstresponse)) (read-outcome i .pfs))
+    late-held = e ∙ (λ i. startsLate (read-outcome i .duration) (dayValue (s .followup .counting .firstresponse)) (read-outcome i .pfs))
 
-    pub ends-late : (a : FileAnswer) → x ≡ true → fileValues a ≡ stopped 14 last → Ends s last a
+    pub ends-late : (a : FileAnswer) → x ≡ true → fileValues a ≡ stopped 14 last → EndsFile s last a
     unfolding verdictHeld
     ends-late a h f = record { answer = f ∙ rw (inside, ← late-held, h) }
 
-    pub ends-accepted : x ≡ false → Ends s last (F.Accepted r)
+    pub ends-accepted : x ≡ false → EndsFile s last (F.Accepted r)
     unfolding verdictHeld
     ends-accepted h = record { answer = rw (inside, ← late-held, h) (ap accepted read-outcome) }

@@ -18,11 +18,11 @@ use Rattle.subject.specs.declared.OpenAnswer.{OpenAnswer}
 use Rattle.subject.specs.Opening.{openNumber, OpensBytes}
 use Rattle.adding.specs.declared.AddAnswer.{AddAnswer}
 use Rattle.adding.specs.Refusals.{addNumber}
-use Rattle.adding.specs.Promises.{AddedBytes}
+use Rattle.adding.specs.Promises.{AddsBytes}
 use Rattle.file.specs.declared.FileAnswer.{FileAnswer}
 use Rattle.codec.specs.Parts.{badLength, parts, partsOf}
-use Rattle.file.specs.Verdict.{refusalOfPart, refused, verdictFrom, verdictOf, fileValues, Judges}
-use Rattle.file.specs.Ending.{Ends}
+use Rattle.file.specs.Verdict.{refusalOfPart, refused, verdictFrom, verdictOf, fileValues, JudgesFile}
+use Rattle.file.specs.Ending.{EndsFile}
 use Rattle.codec.proofs.PartsJoined.{one-part, partAt, partsFrom, one-more}
 use Rattle.file.proofs.FileFollowsRecords.{Taken, first-taken, more, later-number, later-added, ending}
 
@@ -37,7 +37,7 @@ pub record Standing (l : List ℕ) (s : Subject) (k : ℕ) : Type 0 where
   pub rest : verdictOf l ≡ verdictFrom before k (from l k)
   pub all : before ++ map recordOfBytes (from l k) ≡ map recordOfBytes (partsOf l)
 
-pub bad : (l : List ℕ) (a : FileAnswer) → badLength (length l) ≡ true → fileValues a ≡ refused 13 0 → Judges l a
+pub bad : (l : List ℕ) (a : FileAnswer) → badLength (length l) ≡ true → fileValues a ≡ refused 13 0 → JudgesFile l a
 unfolding verdictOf
 bad l a h e = record { answer = e ∙ rw h }
 
@@ -48,7 +48,7 @@ module _ (l : List ℕ) (fair : badLength (length l) ≡ false) where
 
   -- opening the first part with a number
   module _ (x : OpenAnswer) (s : Subject) (n : ℕ) (w : OpensBytes (take recordLength l) x s) (nq : n ≡ openNumber x) where
-    pub first-refused : (a : FileAnswer) → (n ≡ 0 → ⊥) → fileValues a ≡ refused n 0 → Judges l a
+    pub first-refused : (a : FileAnswer) → (n ≡ 0 → ⊥) → fileValues a ≡ refused n 0 → JudgesFile l a
     first-refused a z e =
         let number = nq ∙ w .answer in
         let met : eqb (refusalOfPart [] (take recordLength l)) 0 ≡ false = ne-eqb _ 0 (λ q. z (number ∙ q)) in
@@ -67,14 +67,14 @@ module _ (l : List ℕ) (fair : badLength (length l) ≡ false) where
 
 module _ (l : List ℕ) (s : Subject) (k : ℕ) (w : Standing l s k) where
   -- adding part k with a number
-  module _ (h : k < length l / recordLength) (x : AddAnswer) (t : Subject) (n : ℕ) (v : AddedBytes s (partAt l k) x t) (nq : n ≡ addNumber x) where
+  module _ (h : k < length l / recordLength) (x : AddAnswer) (t : Subject) (n : ℕ) (v : AddsBytes s (partAt l k) x t) (nq : n ≡ addNumber x) where
     pub next-part : verdictOf l ≡ verdictFrom (w .before) k (partAt l k ∷ from l (k + 1))
     next-part = w .rest ∙ ap (verdictFrom (w .before) k) (one-more l (length l / recordLength) k h)
 
     pub number : n ≡ refusalOfPart (w .before) (partAt l k)
     number = nq ∙ later-number (w .taken) v
 
-    pub turn-refused : (a : FileAnswer) → (n ≡ 0 → ⊥) → fileValues a ≡ refused n k → Judges l a
+    pub turn-refused : (a : FileAnswer) → (n ≡ 0 → ⊥) → fileValues a ≡ refused n k → JudgesFile l a
     turn-refused a z e =
         let met : eqb (refusalOfPart (w .before) (partAt l k)) 0 ≡ false = ne-eqb _ 0 (λ q. z (number ∙ q)) in
         record { answer = e ∙ ap (λ (m : ℕ). refused m k) number ∙ sym (next-part ∙ rw met) }
@@ -94,7 +94,7 @@ module _ (l : List ℕ) (s : Subject) (k : ℕ) (w : Standing l s k) where
               ∙ ap (λ (ps : List (List ℕ)). w .before ++ map recordOfBytes ps) (sym (one-more l (length l / recordLength) k h)) ∙ w .all;
         }
 
-  pub ended : length l / recordLength ≤ k → (a : FileAnswer) → Ends s (k - 1) a → Judges l a
+  pub ended : length l / recordLength ≤ k → (a : FileAnswer) → EndsFile s (k - 1) a → JudgesFile l a
   ended h a v =
       let z : length l / recordLength - k ≡ 0 = omega arith in
       let none : from l k ≡ [] = rw z in

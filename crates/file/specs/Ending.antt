@@ -15,8 +15,8 @@ use Rattle.file.specs.Verdict.{Verdict, accepted, unlessRefused, startsL
 -- behind the last record: 12, which no subject of a file meets, or 14, or the outcome
 unfoldable pub verdictHeld : Subject → ℕ → Verdict
 verdictHeld s last =
-    unlessRefused (12 when not (inRange s) ∷ 14 when startsLate (durationHeld s) (dayValue (s .followup .counted .firstresponse)) (pfsHeld s) ∷ []) last
+    unlessRefused (12 when not (inRange s) ∷ 14 when startsLate (durationHeld s) (dayValue (s .followup .counting .firstresponse)) (pfsHeld s) ∷ []) last
     (accepted (outcomeOf s))
 
-pub record Ends (s : Subject) (last : ℕ) (a : FileAnswer) : Type 0 where
+pub record EndsFile (s : Subject) (last : ℕ) (a : FileAnswer) : Type 0 where
   pub answer : fileValues a ≡ verdictHeld s last

@@ -14,7 +14,7 @@ use Rattle.records.specs.declared.OwnRefusal.the-variants as W
 use Rattle.codec.specs.declared.ReadAnswer.{ReadAnswer}
 use Rattle.codec.specs.declared.ReadAnswer.the-variants as R
 use Rattle.codec.specs.declared.ReadResult.{ReadResult}
-use Rattle.codec.specs.Reading.{blank}
+use Rattle.codec.specs.Reading.{blankRecord}
 use Rattle.response_rules.specs.Words.{PR, NE}
 use Rattle.outcome_rules.specs.Values.{on, EVENT, CENSORED, event, censored, noDuration, forDays, Outcome}
 use Rattle.outcome_rules.specs.declared.BestResponse.the-variants as B
@@ -24,7 +24,7 @@ use Rattle.subject.specs.Opening as O
 use Rattle.outcome.specs.Examples.{heldWith, result, values}
 use Rattle.file.specs.Verdict.{refused, accepted, startsLate, verdictFrom, verdictOf, fileValues}
 use Rattle.file.specs.Ending.{verdictHeld}
-use Rattle.file.specs.FileAsCalls.{never, at, numberOf, firstRefusal}
+use Rattle.file.specs.FileAsCalls.{never, at, firstNumber, firstStop}
 use Rattle.file.specs.declared.FileAnswer.the-variants as F
 
 -- 13 length 0 (index 0)
@@ -47,7 +47,7 @@ pub record LateAtTheEdges : Type 0 where
   -- with the index of the last record; the days of these four fall, as in no lawful list: PR 90, PR 120, PR 50
   pub last : verdictFrom fallingDays 4 [] ≡ refused 14 3
   -- and on the held subject, behind 12
-  pub outOfRange : verdictHeld O.blank 3 ≡ refused 12 3
+  pub outOfRange : verdictHeld O.blankSubject 3 ≡ refused 12 3
   pub lateOutOfRange : verdictHeld (heldWith true 0 false M.Absent (events M.Absent 50 (onDay 50)) (counts (onDay 90) M.Absent B.PR)) 3
       ≡ refused 12 3
   pub heldLate : verdictHeld (heldWith true 120 false M.Absent (events M.Absent 50 (onDay 50)) (counts (onDay 90) M.Absent B.PR)) 3
@@ -95,14 +95,14 @@ pub record WholeFiles : Type 0 where
 
 -- the number that reading gives, beside the blank record
 abbrev pub reading : ReadAnswer → ReadResult
-reading a = record { answer = a; found = blank }
+reading a = record { answer = a; found = blankRecord }
 
 -- the first refusal of calls one by one
 pub record FirstOfCalls : Type 0 where
-  pub readFirst : numberOf (reading (R.Refused W.NoSuchDate)) 10 ≡ 3
-  pub thenAdded : numberOf (reading R.Done) 10 ≡ 10
-  pub atIndex2 : firstRefusal 0 (0 ∷ 0 ∷ 10 ∷ 9 ∷ []) ≡ at 10 2
-  pub none : firstRefusal 0 (0 ∷ 0 ∷ []) ≡ never
+  pub readFirst : firstNumber (reading (R.Refused W.NoSuchDate)) 10 ≡ 3
+  pub thenAdded : firstNumber (reading R.Done) 10 ≡ 10
+  pub atIndex2 : firstStop 0 (0 ∷ 0 ∷ 10 ∷ 9 ∷ []) ≡ at 10 2
+  pub none : firstStop 0 (0 ∷ 0 ∷ []) ≡ never
 
 -- the values of the declared cases
 pub record ValuesOfCases : Type 0 where

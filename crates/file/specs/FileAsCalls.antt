@@ -20,61 +20,61 @@ use Rattle.outcome_rules.specs.StudyRecords.{onStudyDays}
 use Rattle.outcome_rules.specs.VisitLines.{VisitLine, linesInOrder}
 use Rattle.subject.specs.declared.Subject.{Subject}
 use Rattle.subject.specs.declared.OpenAnswer.{OpenAnswer}
-use Rattle.subject.specs.Opening.{openNumber, Opened}
+use Rattle.subject.specs.Opening.{openNumber, Opens}
 use Rattle.adding.specs.declared.AddAnswer.{AddAnswer}
 use Rattle.adding.specs.Responses.{addResponses}
 use Rattle.adding.specs.Refusals.{addNumber}
-use Rattle.adding.specs.Promises.{Added}
+use Rattle.adding.specs.Promises.{Adds}
 use Rattle.outcome.specs.declared.OutcomeAnswer.{OutcomeAnswer}
-use Rattle.outcome.specs.ReadingOutcome.{outcome, readingValues, Told}
+use Rattle.outcome.specs.ReadingOutcome.{outcome, readingValues, ReadsOutcome}
 use Rattle.codec.specs.Parts.{badLength, partsOf, Cuts}
 use Rattle.file.specs.Verdict.{refused, accepted, verdictOf}
 
 -- the number that reading gives, or, where that is 0, the number that opening or adding gives
-abbrev pub numberOf : ReadResult → ℕ → ℕ
-numberOf x n = pick (eqb (readNumber (x .answer)) 0) n (readNumber (x .answer))
+abbrev pub firstNumber : ReadResult → ℕ → ℕ
+firstNumber x n = pick (eqb (readNumber (x .answer)) 0) n (readNumber (x .answer))
 
 -- each part is read and its record added, from a subject to another, with the numbers that the calls give and the responses that the additions answer, in
 -- order. Of each call nothing is known but its promise.
-pub data Adds : Subject → List (List ℕ) → List ℕ → List VisitLine → Subject → Type 0 where
-  none : {s : Subject} → Adds s [] [] [] s
+pub data AddsParts : Subject → List (List ℕ) → List ℕ → List VisitLine → Subject → Type 0 where
+  none : {s : Subject} → AddsParts s [] [] [] s
   adds : {s t u : Subject} {part : List ℕ} {x : ReadResult} {a : AddAnswer} {ps : List (List ℕ)} {ns : List ℕ} {ls : List VisitLine} →
-      Reads part x → Added s (x .found) a t → Adds t ps ns ls u → Adds s (part ∷ ps) (numberOf x (addNumber a) ∷ ns) (addResponses a ++ ls) u
+      Reads part x → Adds s (x .found) a t → AddsParts t ps ns ls u → AddsParts s (part ∷ ps) (firstNumber x (addNumber a) ∷ ns) (addResponses a ++ ls) u
 
 -- the first part is read and its record opens the subject
-pub data Singly : List (List ℕ) → List ℕ → List VisitLine → Subject → Type 0 where
+pub data CallsOnParts : List (List ℕ) → List ℕ → List VisitLine → Subject → Type 0 where
   opens : {s t : Subject} {part : List ℕ} {x : ReadResult} {a : OpenAnswer} {ps : List (List ℕ)} {ns : List ℕ} {ls : List VisitLine} →
-      Reads part x → Opened (x .found) a s → Adds s ps ns ls t → Singly (part ∷ ps) (numberOf x (openNumber a) ∷ ns) ls t
+      Reads part x → Opens (x .found) a s → AddsParts s ps ns ls t → CallsOnParts (part ∷ ps) (firstNumber x (openNumber a) ∷ ns) ls t
 
 -- the first number other than 0 and its index, of numbers from index k on
 pub data Stop : Type 0 where
   never : Stop
   at : ℕ → ℕ → Stop
 
-abbrev pub firstRefusal : ℕ → List ℕ → Stop
-firstRefusal k [] = never
-firstRefusal k (n ∷ ns) = pick (eqb n 0) (firstRefusal (suc k) ns) (at n k)
+abbrev pub firstStop : ℕ → List ℕ → Stop
+firstStop k [] = never
+firstStop k (n ∷ ns) = pick (eqb n 0) (firstStop (suc k) ns) (at n k)
 
 -- answers of the calls on a file's parts one by one, and of the reading behind them
-pub record Called (ps : List (List ℕ)) : Type 0 where
+pub record PartsCalled (ps : List (List ℕ)) : Type 0 where
   pub numbers : List ℕ
   pub responses : List VisitLine
   pub left : Subject
-  pub singly : Singly ps numbers responses left
-  pub told : OutcomeAnswer
-  pub reads : Told left told
+  pub calls : CallsOnParts ps numbers responses left
+  pub reading : OutcomeAnswer
+  pub reads : ReadsOutcome left reading
 
-pub record AsSingly : Type 0 where
+pub record FileAsCalls : Type 0 where
   -- where 13 does not meet a file, its parts have 11 bytes each and joined are the file
   pub cut : Cuts
   -- and the calls have answers
-  pub called : (s : List ℕ) → AreBytes s → badLength (length s) ≡ false → Called (partsOf s)
+  pub called : (s : List ℕ) → AreBytes s → badLength (length s) ≡ false → PartsCalled (partsOf s)
   -- an accepted file: no call refuses, the outcome is the one read, and the lines of its visits are the responses answered
   pub accepts : (s : List ℕ) {ns : List ℕ} {ls : List VisitLine} {t : Subject} {q : OutcomeAnswer} {o : Outcome} →
-      verdictOf s ≡ accepted o → Singly (partsOf s) ns ls t → Told t q →
-      (firstRefusal 0 ns ≡ never) × (readingValues q ≡ outcome o) × (linesInOrder (onStudyDays (map recordOfBytes (partsOf s))) ≡ ls)
+      verdictOf s ≡ accepted o → CallsOnParts (partsOf s) ns ls t → ReadsOutcome t q →
+      (firstStop 0 ns ≡ never) × (readingValues q ≡ outcome o) × (linesInOrder (onStudyDays (map recordOfBytes (partsOf s))) ≡ ls)
   pub refuses : (s : List ℕ) {ns : List ℕ} {ls : List VisitLine} {t : Subject} {n k : ℕ} →
-      badLength (length s) ≡ false → Singly (partsOf s) ns ls t → firstRefusal 0 ns ≡ at n k → verdictOf s ≡ refused n k
+      badLength (length s) ≡ false → CallsOnParts (partsOf s) ns ls t → firstStop 0 ns ≡ at n k → verdictOf s ≡ refused n k
   -- and where no call refuses, it is 14 with the index of the last record, or the outcome read
   pub otherwise : (s : List ℕ) {ns : List ℕ} {ls : List VisitLine} {t : Subject} {q : OutcomeAnswer} →
-      badLength (length s) ≡ false → Singly (partsOf s) ns ls t → firstRefusal 0 ns ≡ never → Told t q → (verdictOf s ≡ refused 14 (length s / recordLength - 1)) ⊎ ((o : Outcome) × (readingValues q ≡ outcome o) × (verdictOf s ≡ accepted o))
+      badLength (length s) ≡ false → CallsOnParts (partsOf s) ns ls t → firstStop 0 ns ≡ never → ReadsOutcome t q → (verdictOf s ≡ refused 14 (length s / recordLength - 1)) ⊎ ((o : Outcome) × (readingValues q ≡ outcome o) × (verdictOf s ≡ accepted o))

@@ -13,7 +13,7 @@ use Rattle.codec.specs.Reading.{refusalsOfBytes, recordOfBytes}
 use Rattle.codec.specs.Parts.{badLength, partsOf}
 use Rattle.outcome_rules.specs.Values.{Day, none, on, Pfs, Duration, exists, Outcome}
 use Rattle.outcome_rules.specs.StudyRecords.{Baseline, StudyRecord, onStudyDays, fromBaseline}
-use Rattle.outcome_rules.specs.Course.{Course, course, counting}
+use Rattle.outcome_rules.specs.Course.{Course, course, countingVisits}
 use Rattle.outcome_rules.specs.Pfs.{pfs}
 use Rattle.outcome_rules.specs.Duration.{firstResponse, duration}
 use Rattle.outcome_rules.specs.MarksExact.{outcomeInOrder}
@@ -48,7 +48,7 @@ unfoldable pub startsLate : Duration → Day → Pfs → Bool
 startsLate duration first pfs = both (exists duration) (isAfter first (pfs .day))
 
 abbrev pub responseStartsLate : Course → Bool
-responseStartsLate c = startsLate (duration c) (firstResponse (counting c)) (pfs c)
+responseStartsLate c = startsLate (duration c) (firstResponse (countingVisits c)) (pfs c)
 
 -- behind the last record: 14 with its index, or the outcome; every list of accepted records opens with a baseline, and for any other the number is 7
 abbrev pub verdictOn : List StudyRecord → ℕ → Verdict
@@ -73,5 +73,5 @@ abbrev pub fileValues : FileAnswer → Verdict
 fileValues (F.Refused r) = refused (r .number) (r .index)
 fileValues (F.Accepted o) = accepted (outcomeValues o)
 
-pub record Judges (s : List ℕ) (a : FileAnswer) : Type 0 where
+pub record JudgesFile (s : List ℕ) (a : FileAnswer) : Type 0 where
   pub answer : fileValues a ≡ verdictOf s

@@ -9,7 +9,7 @@ use subject::Subject;
 ghost use mathlib.Core.Path.{_≡_};
 ghost use Rattle.outcome_rules.specs.Values.{dayValue, pfsValues, durationValues};
 ghost use Rattle.file.specs.Verdict.{isAfter, startsLate};
-ghost use Rattle.file.specs.Ending.{Ends};
+ghost use Rattle.file.specs.Ending.{EndsFile};
 
 fn is_after(first: MaybeDay, pfs: PfsResult) -> bool
     ensures { λ r. ⌜ r ≡ isAfter (dayValue first) (pfsValues pfs .day) ⌝ }
@@ -32,11 +32,11 @@ fn starts_late(duration: DurationAnswer, first: MaybeDay, pfs: PfsResult) -> boo
 
 // No subject of a file is out of range.
 pub fn end_file(s: Subject, last: usize) -> FileAnswer
-    ensures { λ a. ⌜ Ends s last a ⌝ }
+    ensures { λ a. ⌜ EndsFile s last a ⌝ }
 {
     let followup = s.followup;
-    let counted = followup.counted;
-    let first = counted.firstresponse;
+    let counting = followup.counting;
+    let first = counting.firstresponse;
     match outcome::read_outcome(s) {
         OutcomeAnswer::OutOfRange => refused(12, last),
         OutcomeAnswer::Read(o) => {

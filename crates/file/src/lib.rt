@@ -3,7 +3,7 @@
 use codec::RECORD_LENGTH;
 use outcome::OutcomeResult;
 ghost use mathlib.Core.Path.{_≡_};
-ghost use Rattle.file.specs.Verdict.{fileValues, refused as stopped, Judges};
+ghost use Rattle.file.specs.Verdict.{fileValues, refused as stopped, JudgesFile};
 
 mod ending; // ending.rt: behind the last record
 
@@ -31,7 +31,7 @@ pub(crate) fn refused(number: u8, index: usize) -> FileAnswer
 }
 
 pub fn judge_file(bytes: &[u8]) -> FileAnswer
-    ensures { λ a. ⌜ Judges (now (bytes .entry)) a ⌝ }
+    ensures { λ a. ⌜ JudgesFile (now (bytes .entry)) a ⌝ }
 {
     if codec::bad_length(bytes.len()) {
         return refused(13, 0);

@@ -10,13 +10,13 @@ use Rattle.codec.specs.Bytes.{recordLength}
 use Rattle.codec.specs.Reading.{recordOfBytes}
 use Rattle.outcome_rules.specs.Adding.{Call}
 use Rattle.subject.specs.declared.Subject.{Subject}
-use Rattle.subject.specs.Opening.{blank, Opened}
+use Rattle.subject.specs.Opening.{blankSubject, Opens}
 use Rattle.adding.specs.declared.AddAnswer.{AddAnswer}
 use Rattle.subject.specs.declared.OpenAnswer.{OpenAnswer}
 use Rattle.outcome.specs.declared.OutcomeAnswer.{OutcomeAnswer}
 use Rattle.outcome.specs.declared.OutcomeAnswer.the-variants as A
-use Rattle.adding.specs.Promises.{Added}
-use Rattle.outcome.specs.ReadingOutcome.{Told}
+use Rattle.adding.specs.Promises.{Adds}
+use Rattle.outcome.specs.ReadingOutcome.{ReadsOutcome}
 use Rattle.outcome.specs.Demand3.{Reply, Calls, none, adds, reads}
 use Rattle.outcome.proofs.CallsInRange.{calls-in-range}
 use Rattle.outcome.proofs.Demand3.{demand3}
@@ -29,7 +29,7 @@ pub record Reached (s : Subject) (rs : List Record) (t : Subject) : Type 0 where
   pub replied : List Reply
   pub calls : Calls s (callsOf rs) replied t
 
-one-turn : {s t u : Subject} {r : Record} {a : AddAnswer} {o : OutcomeAnswer} {rs : List Record} → Added s r a t → Told t o → Reached t rs u → Reached s (r ∷ rs) u
+one-turn : {s t u : Subject} {r : Record} {a : AddAnswer} {o : OutcomeAnswer} {rs : List Record} → Adds s r a t → ReadsOutcome t o → Reached t rs u → Reached s (r ∷ rs) u
 one-turn w q c = record { replied = _; calls = adds w (reads q (c .calls)) }
 
 -- the records from number k on, of count in all
@@ -42,7 +42,7 @@ Goes l count first s k = (t : Subject) → Reached s (from l count k) t → Reac
 
 module _ (l : List ℕ) (count k : ℕ) where
   pub turn : (first s t : Subject) (r : Record) (a : AddAnswer) (o : OutcomeAnswer) → k < count → Goes l count first s k → r ≡ recordOfBytes (partAt l k) →
-      Added s r a t → Told t o → Goes l count first t (k + 1)
+      Adds s r a t → ReadsOutcome t o → Goes l count first t (k + 1)
   turn first s t r a o h g re w q u c =
       let next : from l count k ≡ r ∷ from l count (k + 1) =
       ap (map recordOfBytes) (one-more l count k h) ∙ ap (λ (x : Record). x ∷ from l count (k + 1)) (sym re) in
@@ -55,22 +55,22 @@ module _ (l : List ℕ) (count k : ℕ) where
       g s (rw z (record { replied = []; calls = none }))
 
 -- no call changes the blank
-blank-stays : {s t : Subject} {cs : List Call} {ys : List Reply} → s ≡ blank → Calls s cs ys t → t ≡ blank
+blank-stays : {s t : Subject} {cs : List Call} {ys : List Reply} → s ≡ blankSubject → Calls s cs ys t → t ≡ blankSubject
 blank-stays e none = e
-blank-stays e (adds {t = t} {r = r} {a = a} w c) = blank-stays (calls-in-range .addedToBlank (subst (λ (x : Subject). Added x r a t) e w) .1) c
+blank-stays e (adds {t = t} {r = r} {a = a} w c) = blank-stays (calls-in-range .addedToBlank (subst (λ (x : Subject). Adds x r a t) e w) .1) c
 blank-stays e (reads w c) = blank-stays e c
 
 pub empty : (l : List ℕ) → length l / recordLength ≡ 0 → Replayed (recordsIn l) A.OutOfRange
 empty l e = rw e
 
 pub replayed : (l : List ℕ) (b : Record) (a : OpenAnswer) (s t : Subject) (o : OutcomeAnswer) → (length l / recordLength ≡ 0 → ⊥) → b ≡ recordOfBytes (take recordLength l) →
-    Opened b a s → Reached s (from l (length l / recordLength) 1) t → Told t o → Replayed (recordsIn l) o
+    Opens b a s → Reached s (from l (length l / recordLength) 1) t → ReadsOutcome t o → Replayed (recordsIn l) o
 replayed l b a s t o h be w c q =
     subst (λ (rs : List Record). Replayed rs o) whole (
       λ accepts. demand3 .holds w (w .answer ∙ accepts) (c .calls) q .claim,
       λ refuses.
           let blank-left = blank-stays (calls-in-range .notOpened w (λ z. refuses (sym (w .answer) ∙ z))) (c .calls) in
-          calls-in-range .toldOfBlank (subst (λ (x : Subject). Told x o) blank-left q),
+          calls-in-range .outcomeReadOfBlank (subst (λ (x : Subject). ReadsOutcome x o) blank-left q),
     )
   where
     whole : b ∷ from l (length l / recordLength) 1 ≡ recordsIn l

@@ -3,7 +3,7 @@
 // reading, or R and its number; behind F what judging the file answers; then its listing. The programs `examples` and `refusals` print by it.
 use file::FileAnswer;
 use outcome::OutcomeAnswer;
-ghost use Rattle.file.specs.Verdict.{Judges};
+ghost use Rattle.file.specs.Verdict.{JudgesFile};
 ghost use Rattle.history.specs.Replay.{recordsIn, Replayed};
 
 mod print; // print.rt: answers on standard output
@@ -32,7 +32,7 @@ fn listing(bytes: &[u8]) {
 }
 
 fn judged(bytes: &[u8]) -> FileAnswer
-    ensures { λ a. ⌜ Judges (now (bytes .entry)) a ⌝ }
+    ensures { λ a. ⌜ JudgesFile (now (bytes .entry)) a ⌝ }
 {
     let answer = file::judge_file(bytes);
     print::judged(answer);
@@ -49,7 +49,7 @@ fn replayed(name: &[u8], bytes: &[u8]) -> OutcomeAnswer
 }
 
 // The last reading of the replay.
-pub fn shown(name: &[u8], bytes: &[u8]) -> OutcomeAnswer
+pub fn show_history(name: &[u8], bytes: &[u8]) -> OutcomeAnswer
     ensures { λ o. ⌜ Replayed (recordsIn (now (bytes .entry))) o ⌝ }
 {
     let o = replayed(name, bytes);
@@ -59,8 +59,8 @@ pub fn shown(name: &[u8], bytes: &[u8]) -> OutcomeAnswer
 }
 
 // As a file alone, for bytes that are no whole records.
-pub fn listed(name: &[u8], bytes: &[u8]) -> FileAnswer
-    ensures { λ a. ⌜ Judges (now (bytes .entry)) a ⌝ }
+pub fn show_file(name: &[u8], bytes: &[u8]) -> FileAnswer
+    ensures { λ a. ⌜ JudgesFile (now (bytes .entry)) a ⌝ }
 {
     print::text(name);
     let answer = judged(bytes);

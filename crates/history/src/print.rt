@@ -65,7 +65,7 @@ fn mark(m: bool) {
     }
 }
 
-fn told(o: OutcomeResult) {
+fn outcome_lines(o: OutcomeResult) {
     let pfs = o.pfs;
     let s = pfs.status;
     let b = o.best;
@@ -87,7 +87,7 @@ fn told(o: OutcomeResult) {
 pub(crate) fn outcome(o: OutcomeAnswer) {
     match o {
         OutcomeAnswer::OutOfRange => text(b"\nR 12\n"),
-        OutcomeAnswer::Read(r) => told(r),
+        OutcomeAnswer::Read(r) => outcome_lines(r),
     }
 }
 

@@ -8,7 +8,7 @@ use native.Mathlib.Omega.{arith}
 use lib.ListN.{length, length-append, take, drop, take-append-drop}
 use lib.Seq.{take-length, length-take-le, drop-append-seam, sets-eq}
 use Rattle.outcome.specs.ReadingOutcome.{outcome, outcomeValues}
-use Rattle.outcome.specs.Laws.{TellsWithin}
+use Rattle.outcome.specs.Laws.{ReadingWithin}
 use Rattle.outcome.specs.declared.OutcomeResult.{OutcomeResult}
 use Rattle.file.specs.declared.FileAnswer.{FileAnswer}
 use Rattle.file.specs.declared.FileAnswer.the-variants as F
@@ -16,7 +16,7 @@ use Rattle.file.specs.declared.FileRefusal.{FileRefusal}
 use Rattle.file.specs.Verdict.{refused, accepted, verdictOf, fileValues}
 use Rattle.listing_text.specs.Text.{outcomeText, refusalText, listingOf, longestListing, pageOf}
 use Rattle.listing_text.proofs.ListingLength.{lengths}
-use Rattle.listing.specs.Writing.{Wrote, SmallIndex, JudgesInto, Lists}
+use Rattle.listing.specs.Writing.{Wrote, SmallIndex, JudgesInto, ListsFile}
 use Rattle.listing.proofs.TextsWritten.{then, as-text}
 
 -- the kit's copy of the first n bytes
@@ -35,7 +35,7 @@ pub small-index : (a : FileAnswer) (r : FileRefusal) → a ≡ F.Refused r → S
 small-index a r q h = rw q at h
 
 module _ (s page : List ℕ) (a : FileAnswer) (m : ℕ) (page₁ : List ℕ) (w : JudgesInto s page a m page₁) (size : length page ≡ longestListing) where
-  pub told-within : (o : OutcomeResult) → a ≡ F.Accepted o → TellsWithin (outcome (outcomeValues o))
+  pub told-within : (o : OutcomeResult) → a ≡ F.Accepted o → ReadingWithin (outcome (outcomeValues o))
   told-within o q = w .lines (outcomeValues o) (sym (w .answer) ∙ rw q) .0
 
   -- the bytes that were there, copied over the text that was written, restore the page
@@ -47,7 +47,7 @@ module _ (s page : List ℕ) (a : FileAnswer) (m : ℕ) (page₁ : List ℕ) (w 
       e ∙ ap (λ (t : List ℕ). take m page ++ t) rest ∙ take-append-drop m page
 
   pub lists-refused : (page₂ left : List ℕ) (n : ℕ) (r : FileRefusal) → a ≡ F.Refused r → page₂ ≡ take m page ++ drop m page₁ →
-      Wrote page₂ 0 (refusalText (r .number) (r .index)) n left → Lists s page n left
+      Wrote page₂ 0 (refusalText (r .number) (r .index)) n left → ListsFile s page n left
   unfolding listingOf pageOf
   lists-refused page₂ left n r q e v =
       let verdict : verdictOf s ≡ refused (r .number) (r .index) = sym (w .answer) ∙ rw q in
@@ -57,7 +57,7 @@ module _ (s page : List ℕ) (a : FileAnswer) (m : ℕ) (page₁ : List ℕ) (w 
       let done = from-start page (listingOf s) left n (omega (arith, lengths .listing s, size)) (as-text text again) in
       record { count = done .0; whole = done .1 }
 
-  pub lists-accepted : (left : List ℕ) (n : ℕ) (o : OutcomeResult) → a ≡ F.Accepted o → Wrote page₁ m (outcomeText (outcomeValues o)) n left → Lists s page n left
+  pub lists-accepted : (left : List ℕ) (n : ℕ) (o : OutcomeResult) → a ≡ F.Accepted o → Wrote page₁ m (outcomeText (outcomeValues o)) n left → ListsFile s page n left
   unfolding listingOf pageOf
   lists-accepted left n o q v =
       let verdict : verdictOf s ≡ accepted (outcomeValues o) = sym (w .answer) ∙ rw q in
@@ -67,6 +67,6 @@ module _ (s page : List ℕ) (a : FileAnswer) (m : ℕ) (page₁ : List ℕ) (w 
       record { count = done .0; whole = done .1 }
 
 -- the text is within the page
-pub within-page : (s page left : List ℕ) (n : ℕ) → Lists s page n left → n ≤ length left
+pub within-page : (s page left : List ℕ) (n : ℕ) → ListsFile s page n left → n ≤ length left
 unfolding pageOf
 within-page s page left n w = omega (arith, w .count, ap length (w .whole), length-append (listingOf s) (drop (length (listingOf s)) page))

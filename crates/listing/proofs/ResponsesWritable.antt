@@ -12,19 +12,19 @@ use Rattle.records.specs.declared.Entry.{Entry}
 use Rattle.records.specs.declared.Entry.the-variants as E
 use Rattle.records.specs.declared.Record.{Record}
 use Rattle.records.specs.Entries.{Five}
-use Rattle.records.specs.Refusals.{refusalOf}
+use Rattle.records.specs.Refusals.{refusalOfRecord}
 use Rattle.records.proofs.NoOwnRefusal.{none-after-own}
 use Rattle.outcome_rules.specs.StudyRecords.{Baseline, StudyRecord, dayOf, entryOnStudyDay}
 use Rattle.outcome_rules.specs.LawfulLists.{Past}
-use Rattle.outcome_rules.specs.VisitLines.{linesOf}
-use Rattle.outcome_rules.specs.Adding.{refusalsBehind, refusalsOfAdding}
+use Rattle.outcome_rules.specs.VisitLines.{linesOfRecord}
+use Rattle.outcome_rules.specs.Adding.{refusalsOfStudyRecord, refusalsOfAdding}
 use Rattle.outcome_rules.proofs.AddingRefusals.{one-more, own-passed}
 use Rattle.subject.specs.declared.Subject.{Subject}
 use Rattle.adding.specs.declared.AddAnswer.{AddAnswer}
 use Rattle.adding.specs.declared.AddAnswer.the-variants as A
 use Rattle.adding.specs.Responses.{responseValues, addResponses}
 use Rattle.adding.specs.Refusals.{addNumber}
-use Rattle.adding.specs.Promises.{Added}
+use Rattle.adding.specs.Promises.{Adds}
 use Rattle.adding.proofs.AddingKeepsRange.{study-day-most}
 use Rattle.outcome.proofs.Demand3.{base, on-day, past, responses}
 use Rattle.file.proofs.FileFollowsRecords.{Taken, accepts}
@@ -53,7 +53,7 @@ short-responses A.OutOfRange h = (tt, omega arith)
 short-responses (A.Refused own) h = (tt, omega arith)
 
 -- the responses that an addition answers are short
-module _ {rs : List Record} {s t : Subject} {a : AddAnswer} (h : Taken rs s) (r : Record) (five : Five r) (w : Added s r a t) (z : addNumber a ≡ 0) where
+module _ {rs : List Record} {s t : Subject} {a : AddAnswer} (h : Taken rs s) (r : Record) (five : Five r) (w : Adds s r a t) (z : addNumber a ≡ 0) where
   abbrev b : Baseline
   b = base (h .entry) (h .marks) (h .sizes)
 
@@ -63,11 +63,11 @@ module _ {rs : List Record} {s t : Subject} {a : AddAnswer} (h : Taken rs s) (r 
   abbrev next : StudyRecord
   next = on-day (h .entry) (h .marks) (h .sizes) r
 
-  both-none : (refusalOf r ≡ 0) × (first (refusalsBehind b p next) ≡ 0)
+  both-none : (refusalOfRecord r ≡ 0) × (first (refusalsOfStudyRecord b p next) ≡ 0)
   unfolding refusalsOfAdding
-  both-none = none-after-own r (refusalsBehind b p next) .0 (eqb-true _ 0 (accepts h r w z))
+  both-none = none-after-own r (refusalsOfStudyRecord b p next) .0 (eqb-true _ 0 (accepts h r w z))
 
-  shown : addResponses a ≡ linesOf b p next
+  shown : addResponses a ≡ linesOfRecord b p next
   shown = responses (h .entry) (h .marks) (h .sizes) (h .later) r (h .held) w ∙ rw (accepts h r w z)
 
   pub shown-short : AllShort (addResponses a)

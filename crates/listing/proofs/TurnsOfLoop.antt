@@ -21,15 +21,15 @@ use Rattle.subject.specs.Opening.{openNumber, OpensBytes}
 use Rattle.adding.specs.declared.AddAnswer.{AddAnswer}
 use Rattle.adding.specs.Responses.{addResponses}
 use Rattle.adding.specs.Refusals.{addNumber}
-use Rattle.adding.specs.Promises.{Added, AddedBytes}
+use Rattle.adding.specs.Promises.{Adds, AddsBytes}
 use Rattle.outcome.specs.ReadingOutcome.{outcome, pfsHeld, durationHeld, outcomeOf}
-use Rattle.outcome.specs.Laws.{TellsWithin}
+use Rattle.outcome.specs.Laws.{ReadingWithin}
 use Rattle.outcome.proofs.CallsInRange.{calls-in-range, reading-in-range}
 use Rattle.outcome.proofs.CallsHaveAnswers.{readable}
 use Rattle.file.specs.declared.FileAnswer.{FileAnswer}
 use Rattle.codec.specs.Parts.{mostRecords, mostBytes, badLength, partsOf}
-use Rattle.file.specs.Verdict.{refused, accepted, unlessRefused, startsLate, verdictOf, fileValues, Judges}
-use Rattle.file.specs.Ending.{verdictHeld, Ends}
+use Rattle.file.specs.Verdict.{refused, accepted, unlessRefused, startsLate, verdictOf, fileValues, JudgesFile}
+use Rattle.file.specs.Ending.{verdictHeld, EndsFile}
 use Rattle.file.proofs.VerdictsApart.{apart, accepted-same}
 use Rattle.codec.proofs.PartsJoined.{partAt}
 use Rattle.file.proofs.FileFollowsRecords.{alone, later-added, lines-more}
@@ -47,7 +47,7 @@ pub record Printing (l page₀ page : List ℕ) (s : Subject) (at k : ℕ) : Typ
 
 -- of a refused file nothing is said of the text
 module _ (l page left : List ℕ) (a : FileAnswer) (m : ℕ) where
-  refused-into : (n k : ℕ) → Judges l a → fileValues a ≡ refused n k → k < 100000 → m ≤ mostLines → (text : List ℕ) → Wrote page 0 text m left → JudgesInto l page a m left
+  refused-into : (n k : ℕ) → JudgesFile l a → fileValues a ≡ refused n k → k < 100000 → m ≤ mostLines → (text : List ℕ) → Wrote page 0 text m left → JudgesInto l page a m left
   refused-into n k w e h b text u =
       record {
         answer = w .answer;
@@ -59,7 +59,7 @@ module _ (l page left : List ℕ) (a : FileAnswer) (m : ℕ) where
       }
 
   -- before the second record nothing is written
-  early-into : (n : ℕ) → Judges l a → left ≡ page → (fileValues a ≡ refused n 0) × (m ≡ 0) → JudgesInto l page a m left
+  early-into : (n : ℕ) → JudgesFile l a → left ≡ page → (fileValues a ≡ refused n 0) × (m ≡ 0) → JudgesInto l page a m left
   early-into n w p e = refused-into n 0 w (e .0) (omega arith) (omega (arith, e .1)) [] (rw (p, e .1) (nothing page 0))
 
   pub bad-into : badLength (length l) ≡ true → left ≡ page → (fileValues a ≡ refused 13 0) × (m ≡ 0) → JudgesInto l page a m left
@@ -70,7 +70,7 @@ module _ (l page left : List ℕ) (a : FileAnswer) (m : ℕ) where
   first-into h p x s n w nq z e = early-into n (first-refused l h x s n w nq a z (e .0)) p e
 
   pub turn-into : (s : Subject) (at k : ℕ) → Printing l page left s at k → k < length l / recordLength → length l ≤ mostBytes → at ≤ mostLines →
-      (x : AddAnswer) (t : Subject) (n : ℕ) → AddedBytes s (partAt l k) x t → n ≡ addNumber x → (n ≡ 0 → ⊥) → (fileValues a ≡ refused n k) × (m ≡ at) →
+      (x : AddAnswer) (t : Subject) (n : ℕ) → AddsBytes s (partAt l k) x t → n ≡ addNumber x → (n ≡ 0 → ⊥) → (fileValues a ≡ refused n k) × (m ≡ at) →
       JudgesInto l page a m left
   turn-into s at k w h b f x t n v nq z e =
       refused-into n k (turn-refused l s k (w .standing) h x t n v nq a z (e .0)) (e .0) (omega arith) (omega (arith, e .1))
@@ -86,11 +86,11 @@ first-printing l page h x s n w nq z =
     }
 
 module _ (l page₀ page : List ℕ) (s : Subject) (at k : ℕ) (w : Printing l page₀ page s at k) (h : k < length l / recordLength) (x : AddAnswer) (t : Subject) (n : ℕ)
-    (v : AddedBytes s (partAt l k) x t) (nq : n ≡ addNumber x) (z : n ≡ 0) where
+    (v : AddsBytes s (partAt l k) x t) (nq : n ≡ addNumber x) (z : n ≡ 0) where
   done : addNumber x ≡ 0
   done = sym nq ∙ z
 
-  added : Added s (recordOfBytes (partAt l k)) x t
+  added : Adds s (recordOfBytes (partAt l k)) x t
   added = later-added (w .standing .taken) v done
 
   pub next-writable : AllWritable (addResponses x) × (length (linesText (addResponses x)) ≤ 24)
@@ -109,33 +109,33 @@ module _ (l page₀ page : List ℕ) (s : Subject) (at k : ℕ) (w : Printing l 
 
 -- behind the last record
 module _ (l page₀ page : List ℕ) (s : Subject) (at k : ℕ) (w : Printing l page₀ page s at k) (h : length l / recordLength ≤ k) (b : k ≤ mostRecords) (m : at ≤ mostLines)
-    (a : FileAnswer) (v : Ends s (k - 1) a) where
-  judged : Judges l a
+    (a : FileAnswer) (v : EndsFile s (k - 1) a) where
+  judged : JudgesFile l a
   judged = ended l s k (w .standing) h a v
 
   inside : fileValues a
-      ≡ unlessRefused (14 when startsLate (durationHeld s) (dayValue (s .followup .counted .firstresponse)) (pfsHeld s) ∷ []) (k - 1) (accepted (outcomeOf s))
+      ≡ unlessRefused (14 when startsLate (durationHeld s) (dayValue (s .followup .counting .firstresponse)) (pfsHeld s) ∷ []) (k - 1) (accepted (outcomeOf s))
   unfolding verdictHeld
   inside = v .answer ∙ rw (w .standing .taken .held .inside)
 
-  tells : TellsWithin (outcome (outcomeOf s))
+  tells : ReadingWithin (outcome (outcomeOf s))
   tells =
       let read = readable s in
-      subst TellsWithin (read .1 .answer ∙ reading-in-range s (w .standing .taken .held .inside)) (calls-in-range .told (read .1) (w .standing .taken .held .inside))
+      subst ReadingWithin (read .1 .answer ∙ reading-in-range s (w .standing .taken .held .inside)) (calls-in-range .outcomeRead (read .1) (w .standing .taken .held .inside))
 
   small : SmallIndex (fileValues a)
-  small = subst SmallIndex (sym inside) (go (startsLate (durationHeld s) (dayValue (s .followup .counted .firstresponse)) (pfsHeld s)))
+  small = subst SmallIndex (sym inside) (go (startsLate (durationHeld s) (dayValue (s .followup .counting .firstresponse)) (pfsHeld s)))
     where
       go : (late : Bool) → SmallIndex (unlessRefused (14 when late ∷ []) (k - 1) (accepted (outcomeOf s)))
       go true = omega arith
       go false = tt
 
-  told : (o : Outcome) → verdictOf l ≡ accepted o → TellsWithin (outcome o)
-  told o e = go (startsLate (durationHeld s) (dayValue (s .followup .counted .firstresponse)) (pfsHeld s)) (sym inside ∙ judged .answer ∙ e)
+  outcomeRead : (o : Outcome) → verdictOf l ≡ accepted o → ReadingWithin (outcome o)
+  outcomeRead o e = go (startsLate (durationHeld s) (dayValue (s .followup .counting .firstresponse)) (pfsHeld s)) (sym inside ∙ judged .answer ∙ e)
     where
-      go : (late : Bool) → unlessRefused (14 when late ∷ []) (k - 1) (accepted (outcomeOf s)) ≡ accepted o → TellsWithin (outcome o)
+      go : (late : Bool) → unlessRefused (14 when late ∷ []) (k - 1) (accepted (outcomeOf s)) ≡ accepted o → ReadingWithin (outcome o)
       go true q = absurd (apart refl q)
-      go false q = subst (λ (u : Outcome). TellsWithin (outcome u)) (accepted-same q) tells
+      go false q = subst (λ (u : Outcome). ReadingWithin (outcome u)) (accepted-same q) tells
 
   every-record : w .standing .before ≡ map recordOfBytes (partsOf l)
   every-record =
@@ -151,5 +151,5 @@ module _ (l page₀ page : List ℕ) (s : Subject) (at k : ℕ) (w : Printing l 
         within = m;
         text = linesText (linesInOrder (onStudyDays (w .standing .before)));
         written = w .written;
-        lines = λ o e. (told o e, ap (λ (rs : List Record). linesText (linesInOrder (onStudyDays rs))) every-record);
+        lines = λ o e. (outcomeRead o e, ap (λ (rs : List Record). linesText (linesInOrder (onStudyDays rs))) every-record);
       }

@@ -11,7 +11,7 @@ use Rattle.outcome_rules.specs.Values.{Outcome}
 use Rattle.outcome_rules.specs.StudyRecords.{onStudyDays}
 use Rattle.outcome_rules.specs.VisitLines.{VisitLine, linesInOrder}
 use Rattle.outcome.specs.ReadingOutcome.{outcome}
-use Rattle.outcome.specs.Laws.{TellsWithin}
+use Rattle.outcome.specs.Laws.{ReadingWithin}
 use Rattle.file.specs.declared.FileAnswer.{FileAnswer}
 use Rattle.codec.specs.Parts.{partsOf}
 use Rattle.file.specs.Verdict.{Verdict, refused, accepted, verdictOf, fileValues}
@@ -50,9 +50,9 @@ pub record JudgesInto (s page : List ℕ) (a : FileAnswer) (n : ℕ) (left : Lis
   pub within : n ≤ mostLines
   pub text : List ℕ
   pub written : Wrote page 0 text n left
-  pub lines : (o : Outcome) → verdictOf s ≡ accepted o → TellsWithin (outcome o) × (text ≡ linesText (linesInOrder (onStudyDays (map recordOfBytes (partsOf s)))))
+  pub lines : (o : Outcome) → verdictOf s ≡ accepted o → ReadingWithin (outcome o) × (text ≡ linesText (linesInOrder (onStudyDays (map recordOfBytes (partsOf s)))))
 
 -- the promise of listing: how many bytes, and the whole page
-pub record Lists (s page : List ℕ) (n : ℕ) (left : List ℕ) : Type 0 where
+pub record ListsFile (s page : List ℕ) (n : ℕ) (left : List ℕ) : Type 0 where
   pub count : n ≡ length (listingOf s)
   pub whole : left ≡ pageOf s page

@@ -9,7 +9,7 @@ ghost use lib.ListN.{length, take, drop};
 ghost use mathlib.Core.List.{_++_};
 ghost use Rattle.file.specs.Verdict.{fileValues, refused};
 ghost use Rattle.listing_text.specs.Text.{longestListing};
-ghost use Rattle.listing.specs.Writing.{JudgesInto, Lists};
+ghost use Rattle.listing.specs.Writing.{JudgesInto, ListsFile};
 
 mod page; // page.rt: bytes and numbers into a page
 mod words; // words.rt: the words of answers into a page
@@ -81,7 +81,7 @@ fn copy(from: &[u8], page: &mut [u8], n: usize)
 
 // The page has room for the longest listing, so that none is cut short. Where a file is refused behind a visit, the page is restored first.
 pub fn list(bytes: &[u8], page: &mut [u8; PAGE_LENGTH]) -> usize
-    ensures { λ n. ⌜ Lists (now (bytes .entry)) (now (page .entry)) n (now (page .exit)) ⌝ }
+    ensures { λ n. ⌜ ListsFile (now (bytes .entry)) (now (page .entry)) n (now (page .exit)) ⌝ }
 {
     let before = *page;
     let judged = judge_into(bytes, page);

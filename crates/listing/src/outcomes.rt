@@ -18,9 +18,9 @@ ghost use Prim.Native.Nat.{_+_, _≤_, _<_};
 ghost use lib.ListN.{length};
 ghost use mathlib.Core.List.{[], _∷_};
 ghost use Rattle.laws.specs.Choice.{pick};
-ghost use Rattle.outcome_rules.specs.Values.{pfsValues, bestWord, durationValues, wordOfStatus};
+ghost use Rattle.outcome_rules.specs.Values.{pfsValues, bestWord, durationValues, pfsStatusWord};
 ghost use Rattle.outcome.specs.ReadingOutcome.{outcome as Promises·outcome, outcomeValues};
-ghost use Rattle.outcome.specs.Laws.{DurationWithin, TellsWithin};
+ghost use Rattle.outcome.specs.Laws.{DurationWithin, ReadingWithin};
 ghost use Rattle.listing_text.specs.Decimal.{decimal};
 ghost use Rattle.listing_text.specs.Text.{statusText, lineOfFields, pfsText, bestText, durationText, settledText, outcomeText, refusalText};
 ghost use Rattle.listing.specs.Writing.{Wrote};
@@ -28,7 +28,7 @@ ghost use Rattle.listing.specs.Writing.{Wrote};
 // A status and a number, of days or of a day, behind the letter of the line.
 fn put_status_line(page: &mut [u8], at: usize, letter: u8, status: PfsStatus, n: u32) -> usize
     requires { ⌜ (n < 100000) × (at + 17 ≤ length (now page)) ⌝ }
-    ensures { λ r. ⌜ (Wrote (now (page .entry)) at (lineOfFields ((letter ∷ []) ∷ statusText (wordOfStatus status) ∷ decimal n ∷ [])) r (now (page .exit))) × (r ≤ at + 17) ⌝ }
+    ensures { λ r. ⌜ (Wrote (now (page .entry)) at (lineOfFields ((letter ∷ []) ∷ statusText (pfsStatusWord status) ∷ decimal n ∷ [])) r (now (page .exit))) × (r ≤ at + 17) ⌝ }
 {
     let word = put_two(page, at, letter, b' ');
     let space = put_status(page, word, status);
@@ -89,7 +89,7 @@ fn put_settled(page: &mut [u8], at: usize, settled: SettledMarks) -> usize
 }
 
 pub(crate) fn put_outcome(page: &mut [u8], at: usize, outcome: OutcomeResult) -> usize
-    requires { ⌜ (TellsWithin (Promises·outcome (outcomeValues outcome))) × (at + 47 ≤ length (now page)) ⌝ }
+    requires { ⌜ (ReadingWithin (Promises·outcome (outcomeValues outcome))) × (at + 47 ≤ length (now page)) ⌝ }
     ensures { λ r. ⌜ Wrote (now (page .entry)) at (outcomeText (outcomeValues outcome)) r (now (page .exit)) ⌝ }
 {
     let pfs = outcome.pfs;

@@ -11,7 +11,7 @@ ghost use mathlib.Core.List.{[], _∷_};
 ghost use Prim.Native.Nat.{_+_, _≤_, _/_, _%_};
 ghost use lib.ListN.{length};
 ghost use Rattle.response_rules.specs.Words.{targetWord, statusWord, overallWord};
-ghost use Rattle.outcome_rules.specs.Values.{bestWord, wordOfStatus};
+ghost use Rattle.outcome_rules.specs.Values.{bestWord, pfsStatusWord};
 ghost use Rattle.listing_text.specs.Text.{statusText};
 ghost use Rattle.listing.specs.Writing.{Wrote, letters};
 
@@ -88,7 +88,7 @@ pub(crate) fn put_word(page: &mut [u8], at: usize, pair: u16) -> usize
 
 pub(crate) fn put_status(page: &mut [u8], at: usize, status: PfsStatus) -> usize
     requires { ⌜ at + 8 ≤ length (now page) ⌝ }
-    ensures { λ r. ⌜ (Wrote (now (page .entry)) at (statusText (wordOfStatus status)) r (now (page .exit))) × (r ≤ at + 8) ⌝ }
+    ensures { λ r. ⌜ (Wrote (now (page .entry)) at (statusText (pfsStatusWord status)) r (now (page .exit))) × (r ≤ at + 8) ⌝ }
 {
     match status {
         PfsStatus::Event => put_five(page, at, b'E', b'V', b'E', b'N', b'T'),

@@ -13,9 +13,9 @@ use Rattle.laws.specs.Choice.{both, either, pick}
 use Rattle.laws.proofs.Tests.{never, both-true, either-false}
 use Rattle.laws.proofs.SomeNumber.{some-none}
 use Rattle.records.specs.declared.Entry.the-variants as E
-use Rattle.records.specs.Refusals.{mostTargets, largestSize, leastSize, wrongSize, largeMeasured, targetAt, withoutDisease, outsideLimits, notZero}
+use Rattle.records.specs.Refusals.{mostTargets, largestSize, leastSize, sizeOutsideLimits, measuredOutsideLimits, targetAt, withoutDisease, outsideLimits, notZero}
 use Rattle.response_rules.specs.Inputs.{Visit}
-use Rattle.response_rules.specs.SumOfDiameters.{sumWhere, measuredSum, baselineSum, allMeasured}
+use Rattle.response_rules.specs.SumOfDiameters.{sumWhere, sumOfDiameters, baselineSum, allMeasured}
 use Rattle.response_rules.specs.Change.{Tenths, none, signed, nearest, roundedChange, changeBetween, changeOf}
 use Rattle.outcome_rules.proofs.CompleteVisit.{limits-and-zeros}
 use Rattle.outcome_rules.specs.StudyRecords.{Baseline, baseline, visit, disease, entryOfBaseline, entryOfVisit, fieldsPass}
@@ -65,8 +65,8 @@ none-short = record { tenths = omega arith; text = omega arith }
 -- ---- from a baseline, with a visit that fits it
 
 -- a size within the count of a baseline is at least 10
-least-ten : (count i : ℕ) (node : Bool) (size : ℕ) → i < count → wrongSize count i node size ≡ false → 10 ≤ size
-unfolding wrongSize
+least-ten : (count i : ℕ) (node : Bool) (size : ℕ) → i < count → sizeOutsideLimits count i node size ≡ false → 10 ≤ size
+unfolding sizeOutsideLimits
 least-ten count i node size l e =
     go node (ltb-false size (leastSize node) (either-false (ltb size (leastSize node)) (ltb largestSize size) (rw (lt-ltb i count l) at e) .0))
   where
@@ -86,7 +86,7 @@ size-within b passes i l c = go (b .assessed) refl
         let limits = either-false (ltb mostTargets (b .count)) _ (rw q at (own .0)) in
         let wrong = either-false (withoutDisease (entryOfBaseline b)) _ (limits .1) in
         least-ten (b .count) i (getD (b .nodes) i false) (getD (b .sizes) i 0) c
-        (some-none (targetAt (wrongSize (b .count)) (b .nodes) (b .sizes)) mostTargets (wrong .1) i l)
+        (some-none (targetAt (sizeOutsideLimits (b .count)) (b .nodes) (b .sizes)) mostTargets (wrong .1) i l)
     go false q =
         let zeros = either-false (b .nontarget) _ (rw q at (own .1)) in
         let count = ltb-false 0 (b .count) (either-false (ltb 0 (b .count)) _ (zeros .1) .0) in
@@ -114,14 +114,14 @@ module _ (b : Baseline) (d : ℕ) (v : Visit) (base : fieldsPass (baseline b) �
       go false q e = leb-false (b .count) i q
 
   measured-small : (i : ℕ) → i < mostTargets → getD (v .measured) i false ≡ true → getD (v .sizes) i 0 ≤ largestSize
-  unfolding outsideLimits largeMeasured
+  unfolding outsideLimits measuredOutsideLimits
   measured-small i l m =
-      let large = some-none (targetAt (λ (i : ℕ). largeMeasured) (v .measured) (v .sizes)) mostTargets
+      let large = some-none (targetAt (λ (i : ℕ). measuredOutsideLimits) (v .measured) (v .sizes)) mostTargets
       (limits-and-zeros (E.Visit (entryOfVisit v)) (v .measured) (v .sizes) passes .0) i l in
       ltb-false largestSize (getD (v .sizes) i 0) (rw m at large)
 
-  sum-most : measuredSum (v .measured) (v .sizes) ≤ 50 * baselineSum (b .count) (b .sizes)
-  unfolding measuredSum baselineSum
+  sum-most : sumOfDiameters (v .measured) (v .sizes) ≤ 50 * baselineSum (b .count) (b .sizes)
+  unfolding sumOfDiameters baselineSum
   sum-most = sum-fiftyfold (λ (i : ℕ). getD (v .measured) i false) (λ (i : ℕ). ltb i (b .count)) (v .sizes) (b .sizes) mostTargets term
     where
       term : (i : ℕ) → i < mostTargets → pick (getD (v .measured) i false) (getD (v .sizes) i 0) 0 ≤ 50 * pick (ltb i (b .count)) (getD (b .sizes) i 0) 0
@@ -140,10 +140,10 @@ module _ (b : Baseline) (d : ℕ) (v : Visit) (base : fieldsPass (baseline b) �
   change-short = go (eqb (b .count) 0) (not (allMeasured (b .count) (v .measured))) (eqb (baselineSum (b .count) (b .sizes)) 0) refl
     where
       go : (x y z : Bool) → eqb (baselineSum (b .count) (b .sizes)) 0 ≡ z →
-          ChangeShort (pick (either x (either y z)) none (changeBetween (baselineSum (b .count) (b .sizes)) (measuredSum (v .measured) (v .sizes))))
+          ChangeShort (pick (either x (either y z)) none (changeBetween (baselineSum (b .count) (b .sizes)) (sumOfDiameters (v .measured) (v .sizes))))
       go true y z q = none-short
       go false true z q = none-short
       go false false true q = none-short
       go false false false q =
           let some = eqb-false (baselineSum (b .count) (b .sizes)) 0 q in
-          between-short (baselineSum (b .count) (b .sizes)) (measuredSum (v .measured) (v .sizes)) (omega arith) sum-most
+          between-short (baselineSum (b .count) (b .sizes)) (sumOfDiameters (v .measured) (v .sizes)) (omega arith) sum-most

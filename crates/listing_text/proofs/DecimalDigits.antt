@@ -10,7 +10,7 @@ use lib.Dec.{ltb}
 use lib.ListN.{length, length-append}
 use borrow.Author.Tests.{lt-ltb, le-ltb, ltb-false}
 use Rattle.laws.specs.Choice.{pick}
-use Rattle.listing_text.specs.Decimal.{digit, digits, decimal, told}
+use Rattle.listing_text.specs.Decimal.{digit, digits, decimal, decimalValue}
 
 -- ---- how many
 
@@ -93,22 +93,22 @@ module _ (n : ℕ) where
 
 -- ---- what they tell
 
-told-behind : (sofar : ℕ) (ds : List ℕ) (d : ℕ) → told sofar (ds ++ (d ∷ [])) ≡ 10 * told sofar ds + (d - 48)
+told-behind : (sofar : ℕ) (ds : List ℕ) (d : ℕ) → decimalValue sofar (ds ++ (d ∷ [])) ≡ 10 * decimalValue sofar ds + (d - 48)
 told-behind sofar [] d = refl
 told-behind sofar (c ∷ ds) d = told-behind (10 * sofar + (c - 48)) ds d
 
-digits-tell : (k n : ℕ) → n < 10 ^ k → told 0 (digits k n) ≡ n
+digits-tell : (k n : ℕ) → n < 10 ^ k → decimalValue 0 (digits k n) ≡ n
 digits-tell zero n h = omega arith
 digits-tell (suc k) n h = go (ltb n 10) refl (digits-tell k (n / 10))
   where
-    go : (b : Bool) → ltb n 10 ≡ b → (n / 10 < 10 ^ k → told 0 (digits k (n / 10)) ≡ n / 10) →
-        told 0 (pick b (digit n ∷ []) (digits k (n / 10) ++ (digit (n % 10) ∷ []))) ≡ n
+    go : (b : Bool) → ltb n 10 ≡ b → (n / 10 < 10 ^ k → decimalValue 0 (digits k (n / 10)) ≡ n / 10) →
+        decimalValue 0 (pick b (digit n ∷ []) (digits k (n / 10) ++ (digit (n % 10) ∷ []))) ≡ n
     go true q fewer = omega arith
     go false q fewer =
         let e = pow-suc 10 k in
         let f = fewer (omega arith) in
-        told-behind 0 (digits k (n / 10)) (digit (n % 10)) ∙ (let w : 10 * told 0 (digits k (n / 10)) + (48 + n % 10 - 48) ≡ n = omega arith in w)
+        told-behind 0 (digits k (n / 10)) (digit (n % 10)) ∙ (let w : 10 * decimalValue 0 (digits k (n / 10)) + (48 + n % 10 - 48) ≡ n = omega arith in w)
 
-pub decimal-tells : (n : ℕ) → n < 10 ^ 20 → told 0 (decimal n) ≡ n
+pub decimal-tells : (n : ℕ) → n < 10 ^ 20 → decimalValue 0 (decimal n) ≡ n
 unfolding decimal
 decimal-tells n h = digits-tell 20 n h

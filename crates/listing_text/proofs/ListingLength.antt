@@ -21,14 +21,14 @@ use Rattle.outcome_rules.specs.LawfulLists.{Past, latestDay}
 use Rattle.outcome_rules.specs.Course.{course}
 use Rattle.outcome_rules.specs.VisitLines.{visitLines}
 use Rattle.outcome_rules.specs.Settled.{outcome}
-use Rattle.outcome_rules.specs.Adding.{refusalsAfter, refusalsOfOpening, refusalsOfAdding, refusalOfAdding}
+use Rattle.outcome_rules.specs.Adding.{refusalsOfStudyRecordInOrder, refusalsOfOpening, refusalsOfAdding, refusalOfAdding}
 use Rattle.outcome_rules.proofs.AddingRefusals.{own-passed}
 use Rattle.subject.specs.declared.Subject.{Subject}
 use Rattle.subject.specs.Laws.{Within}
 use Rattle.subject.specs.Summary.{summary}
 use Rattle.subject.proofs.RangeLaws.{subject-within}
-use Rattle.adding.specs.Promises.{subjectBy, refusalHeld}
-use Rattle.outcome.specs.Laws.{DurationWithin, TellsWithin}
+use Rattle.adding.specs.Promises.{subjectBy, refusalOfAddingHeld}
+use Rattle.outcome.specs.Laws.{DurationWithin, ReadingWithin}
 use Rattle.outcome.proofs.CallsInRange.{calls-in-range}
 use Rattle.outcome.proofs.CallsHaveAnswers.{opens, readable}
 use Rattle.outcome.proofs.AdditionsHaveAnswers.{some-addition}
@@ -78,7 +78,7 @@ module _ (x : BaselineEntry) (marks : List Bool) (sizes : List ℕ) (passes : fi
     told-within : Within (outcome b (behind later) .pfs .day) × DurationWithin (outcome b (behind later) .duration)
     told-within =
         let read = readable s in
-        subst TellsWithin (reading x marks sizes later (h .held) (read .1)) (calls-in-range .told (read .1) (h .held .inside))
+        subst ReadingWithin (reading x marks sizes later (h .held) (read .1)) (calls-in-range .outcomeRead (read .1) (h .held .inside))
 
     accepted-short : length (linesText (visitLines b (behind later)) ++ outcomeText (outcome b (behind later))) ≤ 24 * length later + 47
     accepted-short =
@@ -111,9 +111,9 @@ module _ (x : BaselineEntry) (marks : List Bool) (sizes : List ℕ) (passes : fi
       unfolding refusalsOfAdding
       passed =
           own-passed (x .date) r (found-five part)
-          (none-after-own r (refusalsAfter (onStudyDays (whole later)) (on-day x marks sizes r)) .0 accepts .0)
+          (none-after-own r (refusalsOfStudyRecordInOrder (onStudyDays (whole later)) (on-day x marks sizes r)) .0 accepts .0)
 
-      one-more : Known (later ++ (r ∷ [])) (subjectBy s r (refusalHeld s r))
+      one-more : Known (later ++ (r ∷ [])) (subjectBy s r (refusalOfAddingHeld s r))
       one-more =
           let added = some-addition s r .1 in
           record {
@@ -135,7 +135,7 @@ module _ (x : BaselineEntry) (marks : List Bool) (sizes : List ℕ) (passes : fi
           (onStudyDays (whole (later ++ map recordOfBytes (part ∷ ps)))))
           ≤ 24 * (length later + length (part ∷ ps)) + 47
       go true q more =
-          let bound = more (subjectBy s (recordOfBytes part) (refusalHeld s (recordOfBytes part))) (one-more later s h part (eqb-true (refusalOfPart (whole later) part) 0 q)) in
+          let bound = more (subjectBy s (recordOfBytes part) (refusalOfAddingHeld s (recordOfBytes part))) (one-more later s h part (eqb-true (refusalOfPart (whole later) part) 0 q)) in
           let joined = append-assoc later (recordOfBytes part ∷ []) (map recordOfBytes ps) in
           omega (arith, rw joined at bound, length-append later (recordOfBytes part ∷ []))
       go false q more = omega (arith, refused-short (whole later) k part (omega arith))
@@ -182,4 +182,4 @@ listing-short s = go (badLength (length s)) refl
         rw one (file-short _ rest (omega (arith, length-parts (length s / recordLength - 1) (drop recordLength s))))
 
 pub lengths : Lengths
-lengths = record { tells = decimal-tells; line = line-short; listing = listing-short }
+lengths = record { valueOfDecimal = decimal-tells; line = line-short; listing = listing-short }

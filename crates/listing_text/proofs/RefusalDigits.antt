@@ -8,12 +8,12 @@ use Rattle.laws.specs.Refusals.{_when_, Each}
 use Rattle.laws.proofs.FirstRefusal.{among, each-append}
 use Rattle.records.specs.declared.Record.{Record}
 use Rattle.records.specs.Entries.{dateOf}
-use Rattle.records.specs.Refusals.{refusalsOf}
+use Rattle.records.specs.Refusals.{refusalsOfRecord}
 use Rattle.records.proofs.NoOwnRefusal.{each-own}
 use Rattle.codec.specs.Reading.{refusalsOfBytes, recordOfBytes}
 use Rattle.codec.proofs.NoRefusalOfBytes.{each-of-bytes}
 use Rattle.outcome_rules.specs.StudyRecords.{StudyRecord, baseline, visit, therapy, death, onStudyDay, onStudyDays}
-use Rattle.outcome_rules.specs.Adding.{refusalsAfter, notBaseline, refusalsOfOpening, refusalsOfAdding}
+use Rattle.outcome_rules.specs.Adding.{refusalsOfStudyRecordInOrder, notBaseline, refusalsOfOpening, refusalsOfAdding}
 use Rattle.outcome_rules.proofs.AddingRefusals.{each-behind}
 use Rattle.file.specs.Verdict.{refusalsOfPart, refusalOfPart}
 
@@ -21,14 +21,14 @@ use Rattle.file.specs.Verdict.{refusalsOfPart, refusalOfPart}
 abbrev Small : ℕ → Type 0
 Small n = n < 100
 
-own-small : (r : Record) → Each Small (refusalsOf r)
+own-small : (r : Record) → Each Small (refusalsOfRecord r)
 own-small r = each-own Small (omega arith) (omega arith) (omega arith) r false false
 
 opening-small : (r : Record) → Each Small (refusalsOfOpening r)
 unfolding refusalsOfOpening
-opening-small r = each-append Small (refusalsOf r) (7 when notBaseline (r .entry) ∷ []) (own-small r) (omega arith, tt)
+opening-small r = each-append Small (refusalsOfRecord r) (7 when notBaseline (r .entry) ∷ []) (own-small r) (omega arith, tt)
 
-after-small : (rs : List StudyRecord) (r : StudyRecord) → Each Small (refusalsAfter rs r)
+after-small : (rs : List StudyRecord) (r : StudyRecord) → Each Small (refusalsOfStudyRecordInOrder rs r)
 after-small [] r = (omega arith, tt)
 after-small (baseline b ∷ rs) r = each-behind Small (omega arith) (omega arith) (omega arith) (omega arith) b (reverse rs) r
 after-small (visit d v ∷ rs) r = (omega arith, tt)
@@ -39,7 +39,7 @@ adding-small : (b : Record) (rs : List Record) (r : Record) → Each Small (refu
 unfolding refusalsOfAdding
 adding-small b rs r =
     let on-day = onStudyDay (dateOf (b .entry)) r in
-    each-append Small (refusalsOf r) (refusalsAfter (onStudyDays (b ∷ rs)) on-day) (own-small r) (after-small (onStudyDays (b ∷ rs)) on-day)
+    each-append Small (refusalsOfRecord r) (refusalsOfStudyRecordInOrder (onStudyDays (b ∷ rs)) on-day) (own-small r) (after-small (onStudyDays (b ∷ rs)) on-day)
 
 part-each : (rs : List Record) (part : List ℕ) → Each Small (refusalsOfPart rs part)
 part-each rs part = go rs (each-of-bytes Small (omega arith) (omega arith) (omega arith) (omega arith) (omega arith) part)

@@ -19,6 +19,6 @@ unfoldable pub decimal : ℕ → List ℕ
 decimal n = digits 20 n
 
 -- the number that digits tell, read from the left behind those read so far
-abbrev pub told : ℕ → List ℕ → ℕ
-told sofar [] = sofar
-told sofar (d ∷ ds) = told (10 * sofar + (d - 48)) ds
+abbrev pub decimalValue : ℕ → List ℕ → ℕ
+decimalValue sofar [] = sofar
+decimalValue sofar (d ∷ ds) = decimalValue (10 * sofar + (d - 48)) ds

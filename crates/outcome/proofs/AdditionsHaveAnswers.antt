@@ -17,14 +17,14 @@ use Rattle.records.specs.declared.Entry.the-variants as E
 use Rattle.records.specs.declared.VisitEntry.{VisitEntry}
 use Rattle.records.specs.declared.Record.{Record}
 use Rattle.records.specs.declared.OwnRefusal.the-variants as N
-use Rattle.records.specs.Refusals.{refusalsOf}
+use Rattle.records.specs.Refusals.{refusalsOfRecord}
 use Rattle.records.proofs.NoOwnRefusal.{each-own}
 use Rattle.response_rules.specs.declared.Target.the-variants as T
 use Rattle.response_rules.specs.declared.Overall.the-variants as O
 use Rattle.response_rules.specs.declared.ChangeAnswer.the-variants as C
 use Rattle.response_rules.specs.Words.{Word, CR, PR, SD, PD, NE, targetWord, statusWord, overallWord}
-use Rattle.response_rules.specs.SumOfDiameters.{measuredSum, allMeasured}
-use Rattle.response_rules.specs.TargetAnswer.{allGone, grown, shrunk, targetAnswer}
+use Rattle.response_rules.specs.SumOfDiameters.{sumOfDiameters, allMeasured}
+use Rattle.response_rules.specs.TargetAnswer.{allDisappeared, progressionFromNadir, partialResponse, targetAnswer}
 use Rattle.response_rules.specs.Inputs.{Visit, visitOf}
 use Rattle.response_rules.specs.OverallAnswer.{grid, rowOf, columnOf, isPD, overallBy}
 use Rattle.response_rules.specs.VisitAnswers.{overallAnswer}
@@ -38,11 +38,11 @@ use Rattle.subject.specs.declared.Subject.{Subject}
 use Rattle.subject.specs.Range.{inRange}
 use Rattle.adding.specs.declared.AddAnswer.{AddAnswer}
 use Rattle.adding.specs.declared.AddAnswer.the-variants as A
-use Rattle.adding.specs.Added.{answerOn}
-use Rattle.adding.specs.Responses.{responseValues, addResponses, lineOn, linesOn}
+use Rattle.adding.specs.OneRecordMore.{overallHeld}
+use Rattle.adding.specs.Responses.{responseValues, addResponses, lineHeld, linesHeld}
 use Rattle.adding.specs.Refusals.{addNumber}
 use Rattle.adding.proofs.AddingKeepsRange.{each-on}
-use Rattle.adding.specs.Promises.{dayOn, refusalsOnDay, responsesBy, subjectBy, refusalHeld, Added}
+use Rattle.adding.specs.Promises.{studyDayHeld, refusalsOfRecordHeld, responsesBy, subjectBy, refusalOfAddingHeld, Adds}
 
 -- ---- the responses at a visit
 
@@ -50,10 +50,10 @@ some-target : (b : BaselineDisease) (earlier : Earlier) (v : Visit) → Some tar
 unfolding targetAnswer
 some-target b earlier v =
     pick-some targetWord (eqb (b .count) 0) _ _ (T.NA, refl)
-    (pick-some targetWord (both (allMeasured (b .count) (v .measured)) (allGone (b .count) (b .nodes) (v .sizes))) _ _ (T.CR, refl)
-    (pick-some targetWord (grown (earlier .nadir) (measuredSum (v .measured) (v .sizes))) _ _ (T.PD, refl)
+    (pick-some targetWord (both (allMeasured (b .count) (v .measured)) (allDisappeared (b .count) (b .nodes) (v .sizes))) _ _ (T.CR, refl)
+    (pick-some targetWord (progressionFromNadir (earlier .nadir) (sumOfDiameters (v .measured) (v .sizes))) _ _ (T.PD, refl)
     (pick-some targetWord (not (allMeasured (b .count) (v .measured))) _ _ (T.NE, refl)
-    (pick-some targetWord (shrunk (b .sum) (measuredSum (v .measured) (v .sizes))) _ _ (T.PR, refl) (T.SD, refl)))))
+    (pick-some targetWord (partialResponse (b .baselinesum) (sumOfDiameters (v .measured) (v .sizes))) _ _ (T.PR, refl) (T.SD, refl)))))
 
 -- the cells of the grid
 abbrev AllSome : List Word → Type 0
@@ -104,17 +104,17 @@ some-overall b earlier v =
 some-change : (b : BaselineDisease) (v : Visit) → Some changeValues (changeOf b v)
 unfolding changeOf changeBetween
 some-change b v =
-    let sum = measuredSum (v .measured) (v .sizes) in
-    pick-some changeValues (either (eqb (b .count) 0) (either (not (allMeasured (b .count) (v .measured))) (eqb (b .sum) 0))) _ _ (C.Absent, refl)
-    (go (roundedChange (b .sum) sum) (both (ltb sum (b .sum)) (ltb 0 (roundedChange (b .sum) sum))))
+    let sum = sumOfDiameters (v .measured) (v .sizes) in
+    pick-some changeValues (either (eqb (b .count) 0) (either (not (allMeasured (b .count) (v .measured))) (eqb (b .baselinesum) 0))) _ _ (C.Absent, refl)
+    (go (roundedChange (b .baselinesum) sum) (both (ltb sum (b .baselinesum)) (ltb 0 (roundedChange (b .baselinesum) sum))))
   where
     go : (n : ℕ) (x : Bool) → Some changeValues (signed x n)
     go n true = (C.Decrease n, refl)
     go n false = (C.Increase n, refl)
 
 some-responses : (e : Enrolment) (f : FollowUp) (day : StudyDay) (v : VisitEntry) (measured : List Bool) (sizes : List ℕ) →
-    Some responseValues (lineOn e f day v measured sizes)
-unfolding answerOn
+    Some responseValues (lineHeld e f day v measured sizes)
+unfolding overallHeld
 some-responses e f day v measured sizes =
     let target = some-target (e .disease) (f .earlier) (visitOf v measured sizes) in
     let overall = some-overall (e .disease) (f .earlier) (visitOf v measured sizes) in
@@ -125,20 +125,20 @@ some-responses e f day v measured sizes =
 
 -- ---- a refusal
 
-some-refusal : (s : Subject) (r : Record) → Some addNumber (refusalHeld s r)
-unfolding refusalHeld
+some-refusal : (s : Subject) (r : Record) → Some addNumber (refusalOfAddingHeld s r)
+unfolding refusalOfAddingHeld
 some-refusal s r =
     let own = each-own (Some addNumber) (A.Refused N.NoSuchDate, refl) (A.Refused N.OutsideLimits, refl) (A.Refused N.NotZero, refl) r false false in
-    let behind = each-on (Some addNumber) (A.SecondBaseline, refl) (A.AfterDeath, refl) (A.TooEarly, refl) (A.Misfit, refl) (s .enrolment) (s .followup) (dayOn s r)
+    let behind = each-on (Some addNumber) (A.SecondBaseline, refl) (A.AfterDeath, refl) (A.TooEarly, refl) (A.Misfit, refl) (s .enrolment) (s .followup) (studyDayHeld s r)
     (r .entry) (r .marks) in
-    among (Some addNumber) (12 when not (inRange s) ∷ refusalsOf r ++ refusalsOnDay s r) (A.Done, refl)
-    ((A.OutOfRange, refl), each-append (Some addNumber) (refusalsOf r) (refusalsOnDay s r) own behind)
+    among (Some addNumber) (12 when not (inRange s) ∷ refusalsOfRecord r ++ refusalsOfRecordHeld s r) (A.Done, refl)
+    ((A.OutOfRange, refl), each-append (Some addNumber) (refusalsOfRecord r) (refusalsOfRecordHeld s r) own behind)
 
 -- ---- an answer
 
 -- the lines of a record, from an answer that says 'done'
 some-done : (e : Enrolment) (f : FollowUp) (day : StudyDay) (r : Entry) (marks : List Bool) (sizes : List ℕ) →
-    (a : AddAnswer) × (addNumber a ≡ 0) × (addResponses a ≡ linesOn e f day r marks sizes)
+    (a : AddAnswer) × (addNumber a ≡ 0) × (addResponses a ≡ linesHeld e f day r marks sizes)
 some-done e f day (E.Baseline b) marks sizes = (A.Done, refl, refl)
 some-done e f day (E.Visit v) marks sizes =
     let some = some-responses e f day v marks sizes in
@@ -164,11 +164,11 @@ some-answer s r n some = go (eqb n 0) refl
   where
     go : (x : Bool) → eqb n 0 ≡ x → (a : AddAnswer) × (addNumber a ≡ n) × (addResponses a ≡ responsesBy s r n)
     go true e =
-        let done = some-done (s .enrolment) (s .followup) (dayOn s r) (r .entry) (r .marks) (r .sizes) in
+        let done = some-done (s .enrolment) (s .followup) (studyDayHeld s r) (r .entry) (r .marks) (r .sizes) in
         (done .0, done .1 ∙ sym (eqb-true n 0 e), done .2 ∙ rw e)
     go false e = (some .0, some .1, none-beside (some .0) (ap (λ (m : ℕ). eqb m 0) (some .1) ∙ e) ∙ rw e)
 
-pub some-addition : (s : Subject) (r : Record) → (a : AddAnswer) × Added s r a (subjectBy s r (refusalHeld s r))
+pub some-addition : (s : Subject) (r : Record) → (a : AddAnswer) × Adds s r a (subjectBy s r (refusalOfAddingHeld s r))
 some-addition s r =
-    let some = some-answer s r (refusalHeld s r) (some-refusal s r) in
+    let some = some-answer s r (refusalOfAddingHeld s r) (some-refusal s r) in
     (some .0, record { answer = some .1; responses = some .2; left = refl })

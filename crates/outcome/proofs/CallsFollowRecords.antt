@@ -11,26 +11,26 @@ use Rattle.laws.specs.Choice.{pick}
 use Rattle.laws.specs.Refusals.{Refusal, first}
 use Rattle.dates.specs.declared.Date.{Date}
 use Rattle.records.specs.declared.Record.{Record}
-use Rattle.records.specs.Refusals.{refusalsOf}
+use Rattle.records.specs.Refusals.{refusalsOfRecord}
 use Rattle.records.proofs.NoOwnRefusal.{none-after-own}
 use Rattle.outcome_rules.specs.Values.{isRecorded, dayValue}
 use Rattle.outcome_rules.specs.StudyRecords.{Baseline, StudyRecord, onStudyDay}
 use Rattle.outcome_rules.specs.LawfulLists.{Past, deathDay, lawfulBehind}
-use Rattle.outcome_rules.specs.Course.{Course, course, deathIn, treated, visitsIn, firstPD, progression, counting}
+use Rattle.outcome_rules.specs.Course.{Course, course, deathDayIn, therapyRecorded, visitsIn, firstPD, progression, countingVisits}
 use Rattle.outcome_rules.specs.Pfs.{beforeEvent, lastVisit, lastEvaluable, pfsOf, pfs}
-use Rattle.outcome_rules.specs.BestResponse.{confirmedCR, confirmedResponse, stable, best}
+use Rattle.outcome_rules.specs.BestResponse.{confirmedCR, confirmedResponse, stableDisease, best}
 use Rattle.outcome_rules.specs.Duration.{firstResponse, durationOf, duration}
-use Rattle.outcome_rules.specs.VisitLines.{linesOf}
+use Rattle.outcome_rules.specs.VisitLines.{linesOfRecord}
 use Rattle.outcome_rules.specs.Settled.{pfsSettledBy, bestSettledBy, durationSettledBy, pfsSettled, bestSettled, durationSettled, outcome}
-use Rattle.outcome_rules.specs.Adding.{refusalsBehind}
+use Rattle.outcome_rules.specs.Adding.{refusalsOfStudyRecord}
 use Rattle.outcome_rules.proofs.OneRecordMore.{latest-in, death-in}
 use Rattle.outcome_rules.proofs.AddingRefusals.{one-more}
 use Rattle.subject.specs.declared.Subject.{Subject}
 use Rattle.subject.specs.Range.{inRange}
 use Rattle.subject.specs.Days.{maybe}
-use Rattle.subject.specs.Summary.{eventOf, countedOf, summary}
+use Rattle.subject.specs.Summary.{eventOf, countingOf, summary}
 use Rattle.subject.proofs.HeldFollowsVisits.{day-of-maybe, best-of-held}
-use Rattle.adding.specs.Promises.{responsesBy, subjectBy, refusalHeld}
+use Rattle.adding.specs.Promises.{responsesBy, subjectBy, refusalOfAddingHeld}
 use Rattle.adding.proofs.HeldFollowsRecords.{refusals-follow, lines-follow, adding-follows}
 use Rattle.outcome.specs.ReadingOutcome.{pfsHeld, bestHeld, durationHeld, pfsSettledHeld, bestSettledHeld, outcomeOf}
 
@@ -44,25 +44,25 @@ module _ (randomisation : Date) (b : Baseline) (p : Past) where
 
     -- 3 to 5, then 8 to 11 judged against the list
     abbrev pub refusal : ℕ
-    refusal = first (refusalsOf r ++ refusalsBehind b p on-day)
+    refusal = first (refusalsOfRecord r ++ refusalsOfStudyRecord b p on-day)
 
-    pub refusal-held : refusalHeld held r ≡ refusal
-    unfolding refusalHeld summary
-    refusal-held = rw inside (ap (λ (rs : List Refusal). first (refusalsOf r ++ rs)) (refusals-follow randomisation b p (r .entry) (r .marks) (r .sizes)))
+    pub refusal-held : refusalOfAddingHeld held r ≡ refusal
+    unfolding refusalOfAddingHeld summary
+    refusal-held = rw inside (ap (λ (rs : List Refusal). first (refusalsOfRecord r ++ rs)) (refusals-follow randomisation b p (r .entry) (r .marks) (r .sizes)))
 
     -- the responses that an addition answers are those of the list
-    pub responses-held : responsesBy held r (refusalHeld held r) ≡ pick (eqb refusal 0) (linesOf b p on-day) []
+    pub responses-held : responsesBy held r (refusalOfAddingHeld held r) ≡ pick (eqb refusal 0) (linesOfRecord b p on-day) []
     unfolding summary
     responses-held = λ i. pick (eqb (refusal-held i) 0) (lines-follow randomisation b p (r .entry) (r .marks) (r .sizes) i) []
 
     pub longer-lawful : lawfulBehind b p ≡ true → eqb refusal 0 ≡ true → lawfulBehind b (on-day ∷ p) ≡ true
-    longer-lawful l e = one-more b p on-day l .0 (none-after-own r (refusalsBehind b p on-day) .0 (eqb-true refusal 0 e) .1)
+    longer-lawful l e = one-more b p on-day l .0 (none-after-own r (refusalsOfStudyRecord b p on-day) .0 (eqb-true refusal 0 e) .1)
 
-    pub added-held : lawfulBehind b p ≡ true → eqb refusal 0 ≡ true → subjectBy held r (refusalHeld held r) ≡ summary randomisation b (on-day ∷ p)
+    pub added-held : lawfulBehind b p ≡ true → eqb refusal 0 ≡ true → subjectBy held r (refusalOfAddingHeld held r) ≡ summary randomisation b (on-day ∷ p)
     unfolding summary
     added-held l e = rw (refusal-held, e) (adding-follows randomisation b p (r .entry) (r .marks) (r .sizes) (longer-lawful l e))
 
-    pub refused-held : eqb refusal 0 ≡ false → subjectBy held r (refusalHeld held r) ≡ held
+    pub refused-held : eqb refusal 0 ≡ false → subjectBy held r (refusalOfAddingHeld held r) ≡ held
     unfolding summary
     refused-held e = rw (refusal-held, e)
 
@@ -74,7 +74,7 @@ module _ (randomisation : Date) (b : Baseline) (p : Past) where
   progression-held : dayValue (maybe (progression c)) ≡ progression c
   progression-held = day-of-maybe (progression c)
 
-  death-held : dayValue (maybe (deathDay p)) ≡ deathIn c
+  death-held : dayValue (maybe (deathDay p)) ≡ deathDayIn c
   death-held = day-of-maybe (deathDay p) ∙ sym (death-in b p)
 
   pub pfs-held : pfsHeld held ≡ pfs c
@@ -84,12 +84,12 @@ module _ (randomisation : Date) (b : Baseline) (p : Past) where
       λ i. pfsOf (progression-held i) (death-held i) (lastVisit (beforeEvent (visitsIn c))) (evaluable i)
 
   best-held : bestHeld held ≡ best c
-  unfolding summary countedOf best
-  best-held = best-of-held (confirmedCR (counting c)) (confirmedResponse (counting c)) (stable (counting c)) (isRecorded (firstPD (counting c)))
+  unfolding summary countingOf best
+  best-held = best-of-held (confirmedCR (countingVisits c)) (confirmedResponse (countingVisits c)) (stableDisease (countingVisits c)) (isRecorded (firstPD (countingVisits c)))
 
   pub duration-held : durationHeld held ≡ duration c
-  unfolding summary countedOf duration
-  duration-held = let response = day-of-maybe (firstResponse (counting c)) in λ i. durationOf (best-held i) (response i) (pfs-held i)
+  unfolding summary countingOf duration
+  duration-held = let response = day-of-maybe (firstResponse (countingVisits c)) in λ i. durationOf (best-held i) (response i) (pfs-held i)
 
   pfs-mark-held : pfsSettledHeld held ≡ pfsSettled (b .assessed) c
   unfolding summary eventOf pfsSettled
@@ -99,7 +99,7 @@ module _ (randomisation : Date) (b : Baseline) (p : Past) where
 
   best-mark-held : bestSettledHeld held ≡ bestSettled (b .assessed) c
   unfolding summary eventOf bestSettled
-  best-mark-held = λ i. bestSettledBy (isRecorded (progression-held i)) (treated c) (isRecorded (death-held i)) (b .assessed) (best-held i)
+  best-mark-held = λ i. bestSettledBy (isRecorded (progression-held i)) (therapyRecorded c) (isRecorded (death-held i)) (b .assessed) (best-held i)
 
   pub outcome-held : outcomeOf held ≡ outcome b p
   unfolding outcomeOf durationSettled

@@ -12,7 +12,7 @@ use Rattle.laws.specs.Refusals.{_when_, first}
 use Rattle.records.specs.declared.Entry.{Entry}
 use Rattle.records.specs.declared.Entry.the-variants as E
 use Rattle.records.specs.declared.Record.{Record}
-use Rattle.records.specs.Refusals.{refusalsOf}
+use Rattle.records.specs.Refusals.{refusalsOfRecord}
 use Rattle.records.proofs.NoOwnRefusal.{Passes, passes, after-own, none-after-own, small-baseline}
 use Rattle.codec.specs.Reading.{refusalsOfBytes, refusalOfBytes, recordOfBytes}
 use Rattle.codec.proofs.NoRefusalOfBytes.{after-reading, found-fine}
@@ -20,12 +20,12 @@ use Rattle.response_rules.specs.Words.{Word}
 use Rattle.outcome_rules.specs.declared.MaybeDay.{MaybeDay}
 use Rattle.outcome_rules.specs.declared.MaybeDay.the-variants as M
 use Rattle.outcome_rules.specs.Values.{orDay1, Pfs, noDuration, forDays, event, censored, dayValue}
-use Rattle.outcome_rules.specs.Pfs.{twoMissed, earlyDeath, pfsOf}
+use Rattle.outcome_rules.specs.Pfs.{twoVisitsMissed, earlyDeathLimit, pfsOf}
 use Rattle.outcome_rules.specs.BestResponse.{isResponse}
 use Rattle.outcome_rules.specs.Duration.{durationOf}
 use Rattle.outcome_rules.specs.Adding.{notBaseline, refusalsOfOpening, refusalOfOpening}
 use Rattle.subject.specs.declared.Subject.{Subject}
-use Rattle.subject.specs.Opening.{openNumber, subjectOf, openedSubject, Opened}
+use Rattle.subject.specs.Opening.{openNumber, subjectOfEntry, openedSubject, Opens}
 use Rattle.subject.specs.Range.{inRange}
 use Rattle.subject.specs.Laws.{Within, AbsentOrWithin, SubjectWithin}
 use Rattle.subject.proofs.RangeLaws.{subject-within, in-range}
@@ -33,17 +33,17 @@ use Rattle.subject.proofs.OpeningInRange.{blank-outside, opening-within}
 use Rattle.adding.specs.declared.AddAnswer.{AddAnswer}
 use Rattle.adding.specs.Responses.{addResponses}
 use Rattle.adding.specs.Refusals.{addNumber}
-use Rattle.adding.specs.Promises.{refusalsOnDay, addedOnDay, Answered, refusalHeld, Added, refusalFromBytes, AddedBytes}
+use Rattle.adding.specs.Promises.{refusalsOfRecordHeld, addedHeld, Answered, refusalOfAddingHeld, Adds, refusalOfAddingBytesHeld, AddsBytes}
 use Rattle.adding.proofs.AddingKeepsRange.{adding-within}
 use Rattle.subject.specs.declared.OpenAnswer.{OpenAnswer}
 use Rattle.outcome.specs.declared.OutcomeAnswer.{OutcomeAnswer}
-use Rattle.outcome.specs.ReadingOutcome.{refused, outcome, readingValues, pfsHeld, bestHeld, outcomeOf, readingOf, Told}
-use Rattle.outcome.specs.Laws.{DurationWithin, TellsWithin, CallsInRange}
+use Rattle.outcome.specs.ReadingOutcome.{refused, outcome, readingValues, pfsHeld, bestHeld, outcomeOf, readingOf, ReadsOutcome}
+use Rattle.outcome.specs.Laws.{DurationWithin, ReadingWithin, CallsInRange}
 
 -- ---- opening
 
 first-within : (e : Entry) (marks : List Bool) (sizes : List ℕ) → Passes (record { entry = e; sizes = sizes; marks = marks }) false false →
-    first (7 when notBaseline e ∷ []) ≡ 0 → SubjectWithin (subjectOf e marks sizes)
+    first (7 when notBaseline e ∷ []) ≡ 0 → SubjectWithin (subjectOfEntry e marks sizes)
 first-within (E.Baseline b) marks sizes own q =
     let small = small-baseline b marks sizes (own .limits) (own .zeros) in
     opening-within b marks sizes (own .date) (small .0) (small .1)
@@ -57,25 +57,25 @@ opened-within r e =
     let parts = none-after-own r _ .0 e in
     rw (eq-eqb (refusalOfOpening r) 0 e) (first-within (r .entry) (r .marks) (r .sizes) (passes r false false (parts .0)) (parts .1))
 
-pub opened-in-range : {r : Record} {a : OpenAnswer} {s : Subject} → Opened r a s → openNumber a ≡ 0 → inRange s ≡ true
+pub opened-in-range : {r : Record} {a : OpenAnswer} {s : Subject} → Opens r a s → openNumber a ≡ 0 → inRange s ≡ true
 opened-in-range {r} {a} {s} w z = rw (w .made) (in-range (openedSubject r) (opened-within r (sym (w .answer) ∙ z)))
 
 -- ---- adding
 
-added-in-range : {s t : Subject} {r : Record} {a : AddAnswer} → Added s r a t → inRange s ≡ true → inRange t ≡ true
-unfolding refusalHeld
-added-in-range {s} {t} {r} w h = rw (w .left) (go (eqb (refusalHeld s r) 0) refl)
+added-in-range : {s t : Subject} {r : Record} {a : AddAnswer} → Adds s r a t → inRange s ≡ true → inRange t ≡ true
+unfolding refusalOfAddingHeld
+added-in-range {s} {t} {r} w h = rw (w .left) (go (eqb (refusalOfAddingHeld s r) 0) refl)
   where
-    go : (x : Bool) → eqb (refusalHeld s r) 0 ≡ x → inRange (pick x (addedOnDay s r) s) ≡ true
+    go : (x : Bool) → eqb (refusalOfAddingHeld s r) 0 ≡ x → inRange (pick x (addedHeld s r) s) ≡ true
     go false e = h
     go true e =
-        let none : first (refusalsOf r ++ refusalsOnDay s r) ≡ 0 = rw h at (eqb-true (refusalHeld s r) 0 e) in
+        let none : first (refusalsOfRecord r ++ refusalsOfRecordHeld s r) ≡ 0 = rw h at (eqb-true (refusalOfAddingHeld s r) 0 e) in
         let within = subject-within s h in
-        in-range (addedOnDay s r)
+        in-range (addedHeld s r)
         (record {
           enrolment = within .enrolment;
           followup =
-              adding-within (s .enrolment) (s .followup) (r .entry) (r .marks) (r .sizes) (within .followup) (none-after-own r (refusalsOnDay s r) .0 none .1);
+              adding-within (s .enrolment) (s .followup) (r .entry) (r .marks) (r .sizes) (within .followup) (none-after-own r (refusalsOfRecordHeld s r) .0 none .1);
         })
 
 -- ---- reading
@@ -86,17 +86,17 @@ or-day-1-within (M.On d) w = w
 
 pfs-within : (g t : MaybeDay) (v : ℕ) (e : MaybeDay) → AbsentOrWithin g → AbsentOrWithin t → AbsentOrWithin e →
     Within (pfsOf (dayValue g) (dayValue t) v (dayValue e) .day)
-pfs-within (M.On d) t v e wg wt we = go (twoMissed (d .0) v)
+pfs-within (M.On d) t v e wg wt we = go (twoVisitsMissed (d .0) v)
   where
     go : (x : Bool) → Within (pick x (censored (orDay1 (dayValue e))) (event (d .0)) .day)
     go true = or-day-1-within e we
     go false = wg
-pfs-within M.Absent (M.On d) v M.Absent wg wt we = go (leb (d .0 - 1) earlyDeath)
+pfs-within M.Absent (M.On d) v M.Absent wg wt we = go (leb (d .0 - 1) earlyDeathLimit)
   where
     go : (x : Bool) → Within (pick x (event (d .0)) (censored 1) .day)
     go true = wt
     go false = (omega arith, omega arith)
-pfs-within M.Absent (M.On d) v (M.On e) wg wt we = go (twoMissed (d .0) v)
+pfs-within M.Absent (M.On d) v (M.On e) wg wt we = go (twoVisitsMissed (d .0) v)
   where
     go : (x : Bool) → Within (pick x (censored (e .0)) (event (d .0)) .day)
     go true = we
@@ -115,13 +115,13 @@ pub reading-in-range : (s : Subject) → inRange s ≡ true → readingOf s ≡ 
 unfolding readingOf
 reading-in-range s h = rw h
 
-tells-within : (s : Subject) → SubjectWithin s → TellsWithin (outcome (outcomeOf s))
+tells-within : (s : Subject) → SubjectWithin s → ReadingWithin (outcome (outcomeOf s))
 unfolding outcomeOf
 tells-within s w =
     let f = s .followup in
     let v = w .followup in
     let p = pfs-within (f .event .progression) (f .deathday) (f .event .lastvisit .0) (f .event .lastevaluable) (v .event .progression) (v .deathday) (v .event .lastevaluable) in
-    (p, duration-within (bestHeld s) (f .counted .firstresponse) (pfsHeld s) (v .counted .firstresponse) p)
+    (p, duration-within (bestHeld s) (f .counting .firstresponse) (pfsHeld s) (v .counting .firstresponse) p)
 
 -- what stands beside a refusal, by its number
 module _ {s t : Subject} {r : Record} {n : ℕ} {a : AddAnswer} (w : Answered s r n a t) (z : addNumber a ≡ 0 → ⊥) where
@@ -134,43 +134,43 @@ module _ {s t : Subject} {r : Record} {n : ℕ} {a : AddAnswer} (w : Answered s 
   no-responses : addResponses a ≡ []
   no-responses = w .responses ∙ rw met
 
-not-added : {s t : Subject} {r : Record} {a : AddAnswer} → Added s r a t → (addNumber a ≡ 0 → ⊥) → t ≡ s
+not-added : {s t : Subject} {r : Record} {a : AddAnswer} → Adds s r a t → (addNumber a ≡ 0 → ⊥) → t ≡ s
 not-added w z = kept w z
 
-from-bytes : {s t : Subject} {bytes : List ℕ} {a : AddAnswer} → AddedBytes s bytes a t → refusalOfBytes bytes ≡ 0 → Added s (recordOfBytes bytes) a t
-unfolding refusalHeld refusalFromBytes
+from-bytes : {s t : Subject} {bytes : List ℕ} {a : AddAnswer} → AddsBytes s bytes a t → refusalOfBytes bytes ≡ 0 → Adds s (recordOfBytes bytes) a t
+unfolding refusalOfAddingHeld refusalOfAddingBytesHeld
 from-bytes {s} {t} {bytes} {a} w e =
     let r = recordOfBytes bytes in
-    let behind = refusalsOnDay s r in
+    let behind = refusalsOfRecordHeld s r in
     let read : first (refusalsOfBytes bytes ++ behind) ≡ first behind = after-reading bytes behind ∙ rw e in
-    let own : first (refusalsOf r ++ behind) ≡ first behind = after-own r behind ∙ rw (found-fine bytes (w .octets) e) in
-    let same : refusalFromBytes s bytes ≡ refusalHeld s r = ap (pick (not (inRange s)) 12) (read ∙ sym own) in
+    let own : first (refusalsOfRecord r ++ behind) ≡ first behind = after-own r behind ∙ rw (found-fine bytes (w .octets) e) in
+    let same : refusalOfAddingBytesHeld s bytes ≡ refusalOfAddingHeld s r = ap (pick (not (inRange s)) 12) (read ∙ sym own) in
     subst (λ (n : ℕ). Answered s (recordOfBytes bytes) n a t) same (w .added)
 
-not-from-bytes : {s t : Subject} {bytes : List ℕ} {a : AddAnswer} → AddedBytes s bytes a t → inRange s ≡ true → (refusalOfBytes bytes ≡ 0 → ⊥) →
+not-from-bytes : {s t : Subject} {bytes : List ℕ} {a : AddAnswer} → AddsBytes s bytes a t → inRange s ≡ true → (refusalOfBytes bytes ≡ 0 → ⊥) →
     (addNumber a ≡ refusalOfBytes bytes) × (addResponses a ≡ []) × (t ≡ s)
-unfolding refusalFromBytes
+unfolding refusalOfAddingBytesHeld
 not-from-bytes {s} {t} {bytes} {a} w h z =
-    let told : refusalFromBytes s bytes ≡ refusalOfBytes bytes =
-    rw h (after-reading bytes (refusalsOnDay s (recordOfBytes bytes)) ∙ rw (ne-eqb (refusalOfBytes bytes) 0 z)) in
-    let number = w .added .answer ∙ told in
+    let outcomeRead : refusalOfAddingBytesHeld s bytes ≡ refusalOfBytes bytes =
+    rw h (after-reading bytes (refusalsOfRecordHeld s (recordOfBytes bytes)) ∙ rw (ne-eqb (refusalOfBytes bytes) 0 z)) in
+    let number = w .added .answer ∙ outcomeRead in
     let refused : addNumber a ≡ 0 → ⊥ = λ e. z (sym number ∙ e) in
     (number, no-responses (w .added) refused, kept (w .added) refused)
 
-added-bytes-outside : {s t : Subject} {bytes : List ℕ} {a : AddAnswer} → AddedBytes s bytes a t → inRange s ≡ false →
+added-bytes-outside : {s t : Subject} {bytes : List ℕ} {a : AddAnswer} → AddsBytes s bytes a t → inRange s ≡ false →
     (addNumber a ≡ 12) × (addResponses a ≡ []) × (t ≡ s)
-unfolding refusalFromBytes
+unfolding refusalOfAddingBytesHeld
 added-bytes-outside {s} {t} {bytes} {a} w h =
-    let told : refusalFromBytes s bytes ≡ 12 = rw h in
-    let twelve = w .added .answer ∙ told in
+    let outcomeRead : refusalOfAddingBytesHeld s bytes ≡ 12 = rw h in
+    let twelve = w .added .answer ∙ outcomeRead in
     let refused : addNumber a ≡ 0 → ⊥ = λ z. let f : ⊥ = omega (arith, twelve, z) in f in
     (twelve, no-responses (w .added) refused, kept (w .added) refused)
 
-added-outside : {s t : Subject} {r : Record} {a : AddAnswer} → Added s r a t → inRange s ≡ false → addNumber a ≡ 12
-unfolding refusalHeld
+added-outside : {s t : Subject} {r : Record} {a : AddAnswer} → Adds s r a t → inRange s ≡ false → addNumber a ≡ 12
+unfolding refusalOfAddingHeld
 added-outside w h = w .answer ∙ rw h
 
-told-outside : {s : Subject} {o : OutcomeAnswer} → Told s o → inRange s ≡ false → readingValues o ≡ refused 12
+told-outside : {s : Subject} {o : OutcomeAnswer} → ReadsOutcome s o → inRange s ≡ false → readingValues o ≡ refused 12
 unfolding readingOf
 told-outside w h = w .answer ∙ rw h
 
@@ -185,10 +185,10 @@ calls-in-range =
       notAnswered = λ w z. no-responses w z;
       fromBytes = from-bytes;
       notFromBytes = not-from-bytes;
-      told = λ {s} w h. subst TellsWithin (sym (w .answer ∙ reading-in-range s h)) (tells-within s (subject-within s h));
+      outcomeRead = λ {s} w h. subst ReadingWithin (sym (w .answer ∙ reading-in-range s h)) (tells-within s (subject-within s h));
       addedOutside = added-outside;
-      toldOutside = told-outside;
+      outcomeReadOutside = told-outside;
       addedBytesOutside = added-bytes-outside;
       addedToBlank = λ w. let twelve = added-outside w blank-outside in (twelve, not-added w (λ z. let f : ⊥ = omega (arith, twelve, z) in f));
-      toldOfBlank = λ w. told-outside w blank-outside;
+      outcomeReadOfBlank = λ w. told-outside w blank-outside;
     }

@@ -14,28 +14,28 @@ use Rattle.records.specs.declared.Entry.{Entry}
 use Rattle.records.specs.declared.Entry.the-variants as E
 use Rattle.records.specs.declared.Record.{Record}
 use Rattle.records.specs.Entries.{Five}
-use Rattle.records.specs.Refusals.{refusalsOf}
+use Rattle.records.specs.Refusals.{refusalsOfRecord}
 use Rattle.records.proofs.NoOwnRefusal.{each-own, none-after-own}
 use Rattle.outcome_rules.specs.StudyRecords.{Baseline, StudyRecord, onStudyDay, onStudyDays}
 use Rattle.outcome_rules.specs.LawfulLists.{Past, lawfulBehind}
 use Rattle.outcome_rules.specs.MarksExact.{MarksExactOn}
 use Rattle.outcome_rules.specs.VisitLines.{VisitLine}
-use Rattle.outcome_rules.specs.Adding.{refusalsBehind, notBaseline, refusalsOfOpening, refusalOfOpening, refusalsOfAdding, refusalOfAdding, responsesOfAdding, Call, add, acceptedAfter, accepted}
+use Rattle.outcome_rules.specs.Adding.{refusalsOfStudyRecord, notBaseline, refusalsOfOpening, refusalOfOpening, refusalsOfAdding, refusalOfAdding, responsesOfAdding, Call, add, acceptedAfter, accepted}
 use Rattle.outcome_rules.proofs.AddingRefusals.{each-behind}
 use Rattle.outcome_rules.proofs.AcceptedRecords.{accepted-lawful, accepted-exact}
 use Rattle.subject.specs.declared.Subject.{Subject}
-use Rattle.subject.specs.Opening.{openNumber, subjectOf, openedSubject, Opened}
+use Rattle.subject.specs.Opening.{openNumber, subjectOfEntry, openedSubject, Opens}
 use Rattle.subject.specs.Range.{inRange}
 use Rattle.adding.specs.declared.AddAnswer.{AddAnswer}
 use Rattle.adding.specs.Responses.{addResponses}
 use Rattle.adding.specs.Refusals.{addNumber}
-use Rattle.adding.specs.Promises.{responsesBy, subjectBy, refusalHeld, Added}
+use Rattle.adding.specs.Promises.{responsesBy, subjectBy, refusalOfAddingHeld, Adds}
 use Rattle.subject.specs.Summary.{summary}
 use Rattle.subject.proofs.HeldAfterBaseline.{baselineOf, opening-follows}
 use Rattle.subject.specs.declared.OpenAnswer.{OpenAnswer}
 use Rattle.outcome.specs.declared.OutcomeAnswer.{OutcomeAnswer}
-use Rattle.outcome.specs.ReadingOutcome.{Reading, outcome, readingValues, outcomeOf, Told}
-use Rattle.outcome.specs.Demand3.{Reply, added, told, Calls, none, adds, reads, outcomeOn, repliesAfter, Without12, SaysOn, Claim, Holds, Demand3}
+use Rattle.outcome.specs.ReadingOutcome.{Reading, outcome, readingValues, outcomeOf, ReadsOutcome}
+use Rattle.outcome.specs.Demand3.{Reply, added, outcomeRead, Calls, none, adds, reads, outcomeOn, repliesAfter, Without12, ReportsOn, Claim, Holds, Demand3}
 use Rattle.outcome.specs.HeldAfter.{Summarises, HeldAfterCalls}
 use Rattle.outcome.proofs.CallsFollowRecords.{refusal-held, responses-held, longer-lawful, added-held, refused-held, outcome-held}
 use Rattle.outcome.proofs.CallsInRange.{calls-in-range, reading-in-range}
@@ -78,23 +78,23 @@ module _ (x : BaselineEntry) (marks : List Bool) (sizes : List ℕ) where
   not-12 rs r =
       let own = each-own Not12 (λ e. omega arith) (λ e. omega arith) (λ e. omega arith) r false false in
       let behind = each-behind Not12 (λ e. omega arith) (λ e. omega arith) (λ e. omega arith) (λ e. omega arith) base (past rs) (on-day r) in
-      among Not12 (refusalsOf r ++ refusalsBehind base (past rs) (on-day r)) (λ e. omega arith)
-      (each-append Not12 (refusalsOf r) (refusalsBehind base (past rs) (on-day r)) own behind)
+      among Not12 (refusalsOfRecord r ++ refusalsOfStudyRecord base (past rs) (on-day r)) (λ e. omega arith)
+      (each-append Not12 (refusalsOfRecord r) (refusalsOfStudyRecord base (past rs) (on-day r)) own behind)
 
-  module _ (rs : List Record) (r : Record) {s t : Subject} {a : AddAnswer} (h : Held rs s) (w : Added s r a t) where
+  module _ (rs : List Record) (r : Record) {s t : Subject} {a : AddAnswer} (h : Held rs s) (w : Adds s r a t) where
     inside : inRange (held-after rs) ≡ true
     inside = ap inRange (sym (h .same)) ∙ h .inside
 
     pub number : addNumber a ≡ refusalOfAdding (opened-with ∷ rs) r
     unfolding refusalsOfAdding
-    number = w .answer ∙ ap (λ (u : Subject). refusalHeld u r) (h .same) ∙ refusal-held (x .date) base (past rs) inside r
+    number = w .answer ∙ ap (λ (u : Subject). refusalOfAddingHeld u r) (h .same) ∙ refusal-held (x .date) base (past rs) inside r
 
-    next : t ≡ subjectBy (held-after rs) r (refusalHeld (held-after rs) r)
-    next = w .left ∙ ap (λ (u : Subject). subjectBy u r (refusalHeld u r)) (h .same)
+    next : t ≡ subjectBy (held-after rs) r (refusalOfAddingHeld (held-after rs) r)
+    next = w .left ∙ ap (λ (u : Subject). subjectBy u r (refusalOfAddingHeld u r)) (h .same)
 
     pub responses : addResponses a ≡ responsesOfAdding (opened-with ∷ rs) r
     unfolding refusalsOfAdding
-    responses = w .responses ∙ ap (λ (u : Subject). responsesBy u r (refusalHeld u r)) (h .same) ∙ responses-held (x .date) base (past rs) inside r
+    responses = w .responses ∙ ap (λ (u : Subject). responsesBy u r (refusalOfAddingHeld u r)) (h .same) ∙ responses-held (x .date) base (past rs) inside r
 
     kept : eqb (refusalOfAdding (opened-with ∷ rs) r) 0 ≡ false → Held rs t
     unfolding refusalsOfAdding
@@ -116,7 +116,7 @@ module _ (x : BaselineEntry) (marks : List Bool) (sizes : List ℕ) where
 
   -- ---- reading
 
-  pub reading : (rs : List Record) {s : Subject} {o : OutcomeAnswer} → Held rs s → Told s o → readingValues o ≡ outcomeOn (onStudyDays (opened-with ∷ rs))
+  pub reading : (rs : List Record) {s : Subject} {o : OutcomeAnswer} → Held rs s → ReadsOutcome s o → readingValues o ≡ outcomeOn (onStudyDays (opened-with ∷ rs))
   reading rs {s} h w = w .answer ∙ reading-in-range s (h .inside) ∙ ap outcome (ap outcomeOf (h .same) ∙ outcome-held (x .date) base (past rs))
 
   -- ---- a list of calls
@@ -159,16 +159,16 @@ module _ (x : BaselineEntry) (marks : List Bool) (sizes : List ℕ) where
       record {
         last = later .last;
         behind = later .behind;
-        replied = λ i. told (told-outcome i) ∷ later .replied i;
-        without12 = subst (λ (y : Reading). Without12 (told y ∷ ys)) (sym told-outcome) (later .without12);
+        replied = λ i. outcomeRead (told-outcome i) ∷ later .replied i;
+        without12 = subst (λ (y : Reading). Without12 (outcomeRead y ∷ ys)) (sym told-outcome) (later .without12);
         held = later .held;
       }
 
   -- ---- the claim
 
-  claim : (ss : List Record) {t : Subject} {o : OutcomeAnswer} → Held ss t → Told t o → MarksExactOn (onStudyDays (opened-with ∷ ss)) → Claim o (opened-with ∷ ss)
+  claim : (ss : List Record) {t : Subject} {o : OutcomeAnswer} → Held ss t → ReadsOutcome t o → MarksExactOn (onStudyDays (opened-with ∷ ss)) → Claim o (opened-with ∷ ss)
   claim ss h w exact =
-      subst (λ (y : Reading). SaysOn y (onStudyDays (opened-with ∷ ss))) (sym (reading ss h w))
+      subst (λ (y : Reading). ReportsOn y (onStudyDays (opened-with ∷ ss))) (sym (reading ss h w))
       (record {
         pfs = refl;
         best = refl;
@@ -179,7 +179,7 @@ module _ (x : BaselineEntry) (marks : List Bool) (sizes : List ℕ) where
       })
 
   holds-from : {s t : Subject} {cs : List Call} {ys : List Reply} {o : OutcomeAnswer} → Five opened-with → refusalOfOpening opened-with ≡ 0 → Held [] s → Calls s cs ys t →
-      Told t o → Holds opened-with cs ys o
+      ReadsOutcome t o → Holds opened-with cs ys o
   holds-from {cs = cs} {o = o} five accepts h c w =
       let all = after [] h c in
       let exact = subst (λ (l : List Record). MarksExactOn (onStudyDays l)) (all .behind) (accepted-exact opened-with cs five accepts) in
@@ -192,36 +192,36 @@ module _ (x : BaselineEntry) (marks : List Bool) (sizes : List ℕ) where
 
 -- what an accepted opening made
 module _ {a : OpenAnswer} {s t : Subject} {cs : List Call} {ys : List Reply} (z : openNumber a ≡ 0) (c : Calls s cs ys t) where
-  module _ (x : BaselineEntry) (marks : List Bool) (sizes : List ℕ) (w : Opened (opened-with x marks sizes) a s) where
+  module _ (x : BaselineEntry) (marks : List Bool) (sizes : List ℕ) (w : Opens (opened-with x marks sizes) a s) where
     accepts : refusalOfOpening (opened-with x marks sizes) ≡ 0
     accepts = sym (w .answer) ∙ z
 
     opening-held : Held x marks sizes [] s
     unfolding openedSubject
     opening-held =
-        let made : openedSubject (opened-with x marks sizes) ≡ subjectOf (E.Baseline x) marks sizes = rw accepts in
+        let made : openedSubject (opened-with x marks sizes) ≡ subjectOfEntry (E.Baseline x) marks sizes = rw accepts in
         record { same = w .made ∙ made ∙ opening-follows x marks sizes; inside = calls-in-range .opened w z; lawfully = refl }
 
   -- a claim on the record opened with, where it holds of every baseline
   from-baseline : (Claimed : Record → Type 0) →
-      ((x : BaselineEntry) (marks : List Bool) (sizes : List ℕ) → Opened (opened-with x marks sizes) a s → Claimed (opened-with x marks sizes)) →
-      (r : Record) → Opened r a s → Claimed r
+      ((x : BaselineEntry) (marks : List Bool) (sizes : List ℕ) → Opens (opened-with x marks sizes) a s → Claimed (opened-with x marks sizes)) →
+      (r : Record) → Opens r a s → Claimed r
   unfolding refusalsOfOpening
   from-baseline Claimed of-baseline r w = go (r .entry) w (none-after-own r _ .0 (sym (w .answer) ∙ z) .1)
     where
-      go : (e : Entry) → Opened (record { entry = e; sizes = r .sizes; marks = r .marks }) a s → first (7 when notBaseline e ∷ []) ≡ 0 →
+      go : (e : Entry) → Opens (record { entry = e; sizes = r .sizes; marks = r .marks }) a s → first (7 when notBaseline e ∷ []) ≡ 0 →
           Claimed (record { entry = e; sizes = r .sizes; marks = r .marks })
       go (E.Baseline x) w n = of-baseline x (r .marks) (r .sizes) w
       go (E.Visit v) w n = absurd (let f : ⊥ = omega arith in f)
       go (E.Therapy d) w n = absurd (let f : ⊥ = omega arith in f)
       go (E.Death d) w n = absurd (let f : ⊥ = omega arith in f)
 
-  from-opening : {o : OutcomeAnswer} → Told t o → (r : Record) → Opened r a s → Holds r cs ys o
+  from-opening : {o : OutcomeAnswer} → ReadsOutcome t o → (r : Record) → Opens r a s → Holds r cs ys o
   from-opening {o} q =
       from-baseline (λ (r : Record). Holds r cs ys o)
       (λ x marks sizes w. holds-from x marks sizes (w .five) (accepts x marks sizes w) (opening-held x marks sizes w) c q)
 
-  summarised : (r : Record) → Opened r a s → Summarises (accepted r cs) t
+  summarised : (r : Record) → Opens r a s → Summarises (accepted r cs) t
   summarised =
       from-baseline (λ (r : Record). Summarises (accepted r cs) t)
       (λ x marks sizes w.

@@ -10,33 +10,33 @@ use Rattle.records.specs.Entries.{Five}
 use Rattle.outcome_rules.specs.Values.{Outcome}
 use Rattle.outcome_rules.specs.StudyRecords.{Baseline, StudyRecord, onStudyDays, fromBaseline}
 use Rattle.outcome_rules.specs.LawfulLists.{lawful}
-use Rattle.outcome_rules.specs.MarksExact.{outcomeInOrder, LastsInOrder}
+use Rattle.outcome_rules.specs.MarksExact.{outcomeInOrder, NoRunChangesInOrder}
 use Rattle.outcome_rules.specs.VisitLines.{VisitLine}
 use Rattle.outcome_rules.specs.Adding.{refusalOfAdding, responsesOfAdding, Call, add, read, acceptedAfter, accepted}
 use Rattle.subject.specs.declared.Subject.{Subject}
-use Rattle.subject.specs.Opening.{openNumber, Opened}
+use Rattle.subject.specs.Opening.{openNumber, Opens}
 use Rattle.adding.specs.declared.AddAnswer.{AddAnswer}
 use Rattle.adding.specs.Responses.{addResponses}
 use Rattle.adding.specs.Refusals.{addNumber}
-use Rattle.adding.specs.Promises.{Added}
+use Rattle.adding.specs.Promises.{Adds}
 use Rattle.subject.specs.declared.OpenAnswer.{OpenAnswer}
 use Rattle.outcome.specs.declared.OutcomeAnswer.{OutcomeAnswer}
-use Rattle.outcome.specs.ReadingOutcome.{Reading, refused, outcome, readingValues, Told}
+use Rattle.outcome.specs.ReadingOutcome.{Reading, refused, outcome, readingValues, ReadsOutcome}
 
 -- what a call replies, in the paper's numbers and values: an addition 0 where it is done or the refusal's number, with the responses at a visit that was
 -- added and none otherwise; a reading the outcome or a refusal
 pub data Reply : Type 0 where
   added : ℕ → List VisitLine → Reply
-  told : Reading → Reply
+  outcomeRead : Reading → Reply
 
 -- a list of calls, from the subject before the first of them to the subject after the last, with their replies. Of each call nothing is known but its
 -- promise, which its `ensures` cites whole.
 pub data Calls : Subject → List Call → List Reply → Subject → Type 0 where
   none : {s : Subject} → Calls s [] [] s
   adds : {s t u : Subject} {r : Record} {a : AddAnswer} {cs : List Call} {ys : List Reply} →
-      Added s r a t → Calls t cs ys u → Calls s (add r ∷ cs) (added (addNumber a) (addResponses a) ∷ ys) u
+      Adds s r a t → Calls t cs ys u → Calls s (add r ∷ cs) (added (addNumber a) (addResponses a) ∷ ys) u
   reads : {s u : Subject} {o : OutcomeAnswer} {cs : List Call} {ys : List Reply} →
-      Told s o → Calls s cs ys u → Calls s (read ∷ cs) (told (readingValues o) ∷ ys) u
+      ReadsOutcome s o → Calls s cs ys u → Calls s (read ∷ cs) (outcomeRead (readingValues o) ∷ ys) u
 
 -- the paper's outcome of a list of records in the order recorded; every list of accepted records opens with a baseline, and for any other the value is a
 -- refusal by 7, which no reading gives
@@ -48,7 +48,7 @@ outcomeOn = fromBaseline (refused 7) (λ (b : Baseline) (rs : List StudyRecord).
 abbrev pub repliesAfter : List Record → List Call → List Reply
 repliesAfter rs [] = []
 repliesAfter rs (add r ∷ cs) = added (refusalOfAdding rs r) (responsesOfAdding rs r) ∷ repliesAfter (acceptedAfter rs (add r ∷ [])) cs
-repliesAfter rs (read ∷ cs) = told (outcomeOn (onStudyDays rs)) ∷ repliesAfter rs cs
+repliesAfter rs (read ∷ cs) = outcomeRead (outcomeOn (onStudyDays rs)) ∷ repliesAfter rs cs
 
 abbrev pub replies : Record → List Call → List Reply
 replies b cs = repliesAfter (b ∷ []) cs
@@ -57,27 +57,27 @@ replies b cs = repliesAfter (b ∷ []) cs
 abbrev pub Without12 : List Reply → Type 0
 Without12 [] = Unit {0}
 Without12 (added n ls ∷ ys) = (n ≡ 12 → ⊥) × Without12 ys
-Without12 (told (refused n) ∷ ys) = (n ≡ 12 → ⊥) × Without12 ys
-Without12 (told (outcome o) ∷ ys) = Without12 ys
+Without12 (outcomeRead (refused n) ∷ ys) = (n ≡ 12 → ⊥) × Without12 ys
+Without12 (outcomeRead (outcome o) ∷ ys) = Without12 ys
 
 -- what a reading says of a baseline and the records behind it: its parts are the paper's outcome, and each mark that it reports is true exactly when no
 -- lawful run of further records, whose fields pass 4 and 5, changes its part
-pub record Says (said : Outcome) (b : Baseline) (rs : List StudyRecord) : Type 0 where
-  pub pfs : said .pfs ≡ outcomeInOrder b rs .pfs
-  pub best : said .best ≡ outcomeInOrder b rs .best
-  pub duration : said .duration ≡ outcomeInOrder b rs .duration
-  pub pfsMark : (said .pfsSettled ≡ true) ↔ LastsInOrder (λ (o : Outcome). o .pfs) b rs
-  pub bestMark : (said .bestSettled ≡ true) ↔ LastsInOrder (λ (o : Outcome). o .best) b rs
-  pub durationMark : (said .durationSettled ≡ true) ↔ LastsInOrder (λ (o : Outcome). o .duration) b rs
+pub record Reports (reported : Outcome) (b : Baseline) (rs : List StudyRecord) : Type 0 where
+  pub pfs : reported .pfs ≡ outcomeInOrder b rs .pfs
+  pub best : reported .best ≡ outcomeInOrder b rs .best
+  pub duration : reported .duration ≡ outcomeInOrder b rs .duration
+  pub pfsMark : (reported .pfsSettled ≡ true) ↔ NoRunChangesInOrder (λ (o : Outcome). o .pfs) b rs
+  pub bestMark : (reported .bestSettled ≡ true) ↔ NoRunChangesInOrder (λ (o : Outcome). o .best) b rs
+  pub durationMark : (reported .durationSettled ≡ true) ↔ NoRunChangesInOrder (λ (o : Outcome). o .duration) b rs
 
 -- of a reading's values and a list of records: no refusal, the list opens with a baseline, and the outcome says what it should
-abbrev pub SaysOn : Reading → List StudyRecord → Type 0
-SaysOn (refused n) rs = ⊥
-SaysOn (outcome said) rs = fromBaseline ⊥ (Says said) rs
+abbrev pub ReportsOn : Reading → List StudyRecord → Type 0
+ReportsOn (refused n) rs = ⊥
+ReportsOn (outcome reported) rs = fromBaseline ⊥ (Reports reported) rs
 
 -- of a reading's answer and the records accepted, baseline first
 abbrev pub Claim : OutcomeAnswer → List Record → Type 0
-Claim o rs = SaysOn (readingValues o) (onStudyDays rs)
+Claim o rs = ReportsOn (readingValues o) (onStudyDays rs)
 
 -- of a baseline opened with, the calls, their replies and the answer of a reading after the last of them: each call replied as the paper says, 12 met none,
 -- the records accepted are a lawful list, and the reading says the outcome of that list
@@ -96,8 +96,8 @@ pub record Runs (s : Subject) (cs : List Call) : Type 0 where
 -- demand 3, from the subject that an accepted opening made: any list of calls, and a reading after the last of them
 pub record Demand3 : Type 0 where
   pub holds : {b : Record} {a : OpenAnswer} {s t : Subject} {cs : List Call} {ys : List Reply} {o : OutcomeAnswer} →
-      Opened b a s → openNumber a ≡ 0 → Calls s cs ys t → Told t o → Holds b cs ys o
+      Opens b a s → openNumber a ≡ 0 → Calls s cs ys t → ReadsOutcome t o → Holds b cs ys o
   -- every opening has an answer; from any subject, and so from one that was opened, every list of calls runs, and a reading after it has an answer
-  pub openingExists : (b : Record) → Five b → (a : OpenAnswer) × (s : Subject) × Opened b a s
+  pub openingExists : (b : Record) → Five b → (a : OpenAnswer) × (s : Subject) × Opens b a s
   pub callsExist : (s : Subject) (cs : List Call) → Runs s cs
-  pub readingExists : (s : Subject) → (o : OutcomeAnswer) × Told s o
+  pub readingExists : (s : Subject) → (o : OutcomeAnswer) × ReadsOutcome s o

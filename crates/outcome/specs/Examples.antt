@@ -18,36 +18,36 @@ use Rattle.outcome_rules.specs.declared.MaybeDay.the-variants as M
 use Rattle.outcome_rules.specs.declared.PfsStatus.the-variants as E
 use Rattle.outcome_rules.specs.Values.{Pfs, Duration, Outcome, CENSORED, EVENT, event, censored, noDuration, forDays}
 use Rattle.outcome_rules.specs.Adding.{add, read}
-use Rattle.outcome_rules.specs.AddingExamples.{printedBaseline, visited}
+use Rattle.outcome_rules.specs.AddingExamples.{printedBaseline, printedVisit43}
 use Rattle.subject.specs.declared.EventDays.{EventDays}
 use Rattle.subject.specs.declared.CountingVisits.{CountingVisits}
 use Rattle.subject.specs.declared.Subject.{Subject}
 use Rattle.subject.specs.HeldExamples.{day, onDay, events, counts, noEvents, noCounts, disease, subjectWith, printedOpened, printedVisited}
-use Rattle.subject.specs.Opening.{blank}
-use Rattle.adding.specs.Promises.{subjectBy, refusalHeld}
-use Rattle.adding.specs.Examples.{treated, died}
+use Rattle.subject.specs.Opening.{blankSubject}
+use Rattle.adding.specs.Promises.{subjectBy, refusalOfAddingHeld}
+use Rattle.adding.specs.Examples.{afterTherapy50, afterDeath50}
 use Rattle.outcome.specs.ReadingOutcome.{Reading, refused, outcome, readingValues, readingOf}
-use Rattle.outcome.specs.Demand3.{added, told, replies}
+use Rattle.outcome.specs.Demand3.{added, outcomeRead, replies}
 use Rattle.outcome.specs.declared.OutcomeAnswer.the-variants as A
 use Rattle.outcome.specs.declared.OutcomeResult.{OutcomeResult}
 
 abbrev pub after : Subject → Record → Subject
-after s r = subjectBy s r (refusalHeld s r)
+after s r = subjectBy s r (refusalOfAddingHeld s r)
 
 pub record FirstRefusals : Type 0 where
   -- 12 before the record's own, and these before 8 to 11
-  pub outOfRange : refusalHeld blank (printedBaseline (ymd 2021 2 29)) ≡ 12
-  pub withoutDate : refusalHeld printedOpened (printedBaseline (ymd 2021 2 29)) ≡ 3
-  pub sizeUnmeasured : refusalHeld printedOpened (visitDated (ymd 2020 1 1) S.NN false [] (12 ∷ [])) ≡ 5
-  pub secondBaseline : refusalHeld printedOpened (printedBaseline (ymd 2020 1 1)) ≡ 8
-  pub fitting : refusalHeld printedOpened visited ≡ 0
+  pub outOfRange : refusalOfAddingHeld blankSubject (printedBaseline (ymd 2021 2 29)) ≡ 12
+  pub withoutDate : refusalOfAddingHeld printedOpened (printedBaseline (ymd 2021 2 29)) ≡ 3
+  pub sizeUnmeasured : refusalOfAddingHeld printedOpened (visitDated (ymd 2020 1 1) S.NN false [] (12 ∷ [])) ≡ 5
+  pub secondBaseline : refusalOfAddingHeld printedOpened (printedBaseline (ymd 2020 1 1)) ≡ 8
+  pub fitting : refusalOfAddingHeld printedOpened printedVisit43 ≡ 0
   -- the subject keeps every value where a refusal meets
   pub keptEarly : after printedVisited (therapyDated (ymd 2020 2 11)) ≡ printedVisited
   pub keptUnmeasured : after printedVisited (visitDated (ymd 2020 3 25) S.NN false [] (12 ∷ [])) ≡ printedVisited
-  pub keptOutOfRange : after blank (therapyDated (ymd 2020 2 11)) ≡ blank
-  pub next : after printedOpened visited ≡ printedVisited
+  pub keptOutOfRange : after blankSubject (therapyDated (ymd 2020 2 11)) ≡ blankSubject
+  pub next : after printedOpened printedVisit43 ≡ printedVisited
   -- reading meets 12 only
-  pub readOutOfRange : readingOf blank ≡ refused 12
+  pub readOutOfRange : readingOf blankSubject ≡ refused 12
 
 -- a baseline with non-target disease alone, or a missing one, by latest day, therapy, death, and what visits left
 abbrev pub heldWith : Bool → ℕ → Bool → MaybeDay → EventDays → CountingVisits → Subject
@@ -63,8 +63,8 @@ pub record ReadAtTheEdges : Type 0 where
   -- neither progression nor death, no visit: censored day 1; nothing is settled
   pub opened : readingOf printedOpened ≡ reads (censored 1) NE noDuration false false false
   -- PR 43, therapy 50: S 0 1 1; PR 43, death 50: S 1 1 1
-  pub afterTherapy : readingOf treated ≡ reads (censored 43) SD noDuration false true true
-  pub afterDeath : readingOf died ≡ reads (event 50) SD noDuration true true true
+  pub afterTherapy : readingOf afterTherapy50 ≡ reads (censored 43) SD noDuration false true true
+  pub afterDeath : readingOf afterDeath50 ≡ reads (event 50) SD noDuration true true true
   -- PR 43, PR 85, therapy 90: S 0 1 0
   pub responded : readingOf (heldWith true 90 true M.Absent (events M.Absent 85 (onDay 85)) (counts (onDay 43) M.Absent B.PR))
       ≡ reads (censored 85) PR (forDays CENSORED 43) false true false
@@ -96,12 +96,12 @@ pub record ReadAtTheEdges : Type 0 where
 
 -- the replies of a list of calls on the printed baseline: the visit of day 43 added, with its responses, read, added again (10), and a therapy on its day
 pub record RepliesAtTheEdges : Type 0 where
-  pub replied : replies (printedBaseline (ymd 2020 1 1)) (add visited ∷ read ∷ add visited ∷ add (therapyDated (ymd 2020 2 12)) ∷ read ∷ [])
+  pub replied : replies (printedBaseline (ymd 2020 1 1)) (add printedVisit43 ∷ read ∷ add printedVisit43 ∷ add (therapyDated (ymd 2020 2 12)) ∷ read ∷ [])
       ≡ added 0 (record { day = 43; target = PR; nontarget = NN; overall = PR; change = signed true 400 } ∷ [])
-      ∷ told (reads (censored 43) SD noDuration false false false)
+      ∷ outcomeRead (reads (censored 43) SD noDuration false false false)
       ∷ added 10 []
       ∷ added 0 []
-      ∷ told (reads (censored 43) SD noDuration false true true)
+      ∷ outcomeRead (reads (censored 43) SD noDuration false true true)
       ∷ []
 
 -- CENSORED 85, PR, CENSORED 43, with these marks of PFS, best and duration

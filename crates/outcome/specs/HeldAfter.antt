@@ -9,7 +9,7 @@ use Rattle.outcome_rules.specs.Adding.{Call, accepted}
 use Rattle.subject.specs.declared.Subject.{Subject}
 use Rattle.subject.specs.Summary.{summary}
 use Rattle.subject.specs.declared.OpenAnswer.{OpenAnswer}
-use Rattle.subject.specs.Opening.{openNumber, Opened}
+use Rattle.subject.specs.Opening.{openNumber, Opens}
 use Rattle.outcome.specs.Demand3.{Reply, Calls}
 
 -- the subject is the summary of records in the order recorded, baseline first
@@ -21,4 +21,4 @@ Summarises (b ∷ rs) s =
 pub record HeldAfterCalls : Type 0 where
   -- after an accepted opening and any list of calls it is that of the records accepted
   pub summarises : {b : Record} {a : OpenAnswer} {s t : Subject} {cs : List Call} {ys : List Reply} →
-      Opened b a s → openNumber a ≡ 0 → Calls s cs ys t → Summarises (accepted b cs) t
+      Opens b a s → openNumber a ≡ 0 → Calls s cs ys t → Summarises (accepted b cs) t

@@ -42,10 +42,10 @@ pfsHeld s =
     (dayValue (s .followup .event .lastevaluable))
 
 abbrev pub bestHeld : Subject → Word
-bestHeld s = bestWord (s .followup .counted .best)
+bestHeld s = bestWord (s .followup .counting .best)
 
 abbrev pub durationHeld : Subject → Duration
-durationHeld s = durationOf (bestHeld s) (dayValue (s .followup .counted .firstresponse)) (pfsHeld s)
+durationHeld s = durationOf (bestHeld s) (dayValue (s .followup .counting .firstresponse)) (pfsHeld s)
 
 abbrev pub pfsSettledHeld : Subject → Bool
 pfsSettledHeld s =
@@ -54,7 +54,7 @@ pfsSettledHeld s =
 
 abbrev pub bestSettledHeld : Subject → Bool
 bestSettledHeld s =
-    bestSettledBy (isRecorded (dayValue (s .followup .event .progression))) (s .followup .treated) (isRecorded (dayValue (s .followup .deathday)))
+    bestSettledBy (isRecorded (dayValue (s .followup .event .progression))) (s .followup .therapyrecorded) (isRecorded (dayValue (s .followup .deathday)))
     (s .enrolment .disease .assessed) (bestHeld s)
 
 unfoldable pub outcomeOf : Subject → Outcome
@@ -72,5 +72,5 @@ outcomeOf s =
 unfoldable pub readingOf : Subject → Reading
 readingOf s = pick (inRange s) (outcome (outcomeOf s)) (refused 12)
 
-pub record Told (s : Subject) (o : OutcomeAnswer) : Type 0 where
+pub record ReadsOutcome (s : Subject) (o : OutcomeAnswer) : Type 0 where
   pub answer : readingValues o ≡ readingOf s

@@ -10,7 +10,7 @@ use outcome_values::is_recorded;
 use outcome_values::pfs_of;
 use subject::Subject;
 ghost use mathlib.Core.Path.{_≡_};
-ghost use Rattle.outcome.specs.ReadingOutcome.{outcomeValues, outcomeOf, Told};
+ghost use Rattle.outcome.specs.ReadingOutcome.{outcomeValues, outcomeOf, ReadsOutcome};
 
 fn outcome_of(s: Subject) -> OutcomeResult
     ensures { λ o. ⌜ outcomeValues o ≡ outcomeOf s ⌝ }
@@ -20,16 +20,16 @@ fn outcome_of(s: Subject) -> OutcomeResult
     let event = followup.event;
     let progression = event.progression;
     let evaluable = event.lastevaluable;
-    let counted = followup.counted;
-    let first = counted.firstresponse;
-    let best = counted.best;
+    let counting = followup.counting;
+    let first = counting.firstresponse;
+    let best = counting.best;
     let pfs = pfs_of(progression, death, event.lastvisit, evaluable);
     let duration = duration_of(best, first, pfs);
     let progressed = is_recorded(progression);
     let dead = is_recorded(death);
     let assessed = s.enrolment.disease.assessed;
     let pfs_mark = pfs_settled(assessed, progressed, dead, followup.latestday);
-    let best_mark = best_settled(progressed, followup.treated, dead, assessed, best);
+    let best_mark = best_settled(progressed, followup.therapyrecorded, dead, assessed, best);
     let duration_mark = duration_settled(duration, pfs_mark, best_mark);
     let settled = SettledMarks {
         pfs: pfs_mark,
@@ -45,7 +45,7 @@ fn outcome_of(s: Subject) -> OutcomeResult
 }
 
 pub fn read_outcome(s: Subject) -> OutcomeAnswer
-    ensures { λ o. ⌜ Told s o ⌝ }
+    ensures { λ o. ⌜ ReadsOutcome s o ⌝ }
 {
     let enrolment = s.enrolment;
     let followup = s.followup;

@@ -2,14 +2,14 @@
 use dates::StudyDay;
 use outcome_rules::BestResponse;
 use outcome_rules::DurationAnswer;
-use outcome_values::EARLY_DEATH;
+use outcome_values::EARLY_DEATH_LIMIT;
 ghost use mathlib.Core.Path.{_≡_};
 ghost use Rattle.outcome_rules.specs.Values.{bestWord, durationValues};
 ghost use Rattle.outcome_rules.specs.BestResponse.{isCR};
 ghost use Rattle.outcome_rules.specs.Settled.{pfsSettledBy, bestSettledBy, durationSettledBy};
 
 // From this day on no death is an early one.
-const SETTLED_FROM: u32 = EARLY_DEATH + 2;
+const SETTLED_FROM: u32 = EARLY_DEATH_LIMIT + 2;
 
 pub(crate) fn pfs_settled(assessed: bool, progressed: bool, dead: bool, latest: StudyDay) -> bool
     ensures { λ r. ⌜ r ≡ pfsSettledBy assessed progressed dead (latest .0) ⌝ }

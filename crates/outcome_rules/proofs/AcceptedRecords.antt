@@ -16,29 +16,29 @@ use Rattle.records.specs.declared.Entry.{Entry}
 use Rattle.records.specs.declared.Entry.the-variants as E
 use Rattle.records.specs.declared.Record.{Record}
 use Rattle.records.specs.Entries.{dateOf, Five}
-use Rattle.records.specs.Refusals.{refusalOf}
+use Rattle.records.specs.Refusals.{refusalOfRecord}
 use Rattle.records.proofs.NoOwnRefusal.{none-after-own}
 use Rattle.outcome_rules.specs.StudyRecords.{StudyRecord, baseline, visit, therapy, death, fieldsPass, entryOnStudyDay, onStudyDay, onStudyDays}
 use Rattle.outcome_rules.specs.LawfulLists.{lawful}
-use Rattle.outcome_rules.specs.Adding.{refusalsAfter, notBaseline, refusalsOfOpening, refusalOfOpening, refusalsOfAdding, refusalOfAdding, Call, add, read, acceptedAfter, accepted}
+use Rattle.outcome_rules.specs.Adding.{refusalsOfStudyRecordInOrder, notBaseline, refusalsOfOpening, refusalOfOpening, refusalsOfAdding, refusalOfAdding, Call, add, read, acceptedAfter, accepted}
 use Rattle.outcome_rules.specs.MarksExact.{MarksExactOn}
 use Rattle.outcome_rules.proofs.MarksExactInOrder.{every-mark-exact-in-order}
 use Rattle.outcome_rules.proofs.AddingRefusals.{one-more, own-passed}
 
 -- one record more behind a list in the order recorded
 one-more-in-order : (s : StudyRecord) (ss : List StudyRecord) (r : StudyRecord) → lawful (s ∷ ss) ≡ true →
-    (first (refusalsAfter (s ∷ ss) r) ≡ 0) ↔ (lawful (s ∷ ss ++ (r ∷ [])) ≡ true)
+    (first (refusalsOfStudyRecordInOrder (s ∷ ss) r) ≡ 0) ↔ (lawful (s ∷ ss ++ (r ∷ [])) ≡ true)
 one-more-in-order (baseline b) ss r l = rw (reverse-append ss (r ∷ [])) (one-more b (reverse ss) r l)
 one-more-in-order (visit d v) ss r l = absurd (never (sym l))
 one-more-in-order (therapy d) ss r l = absurd (never (sym l))
 one-more-in-order (death d) ss r l = absurd (never (sym l))
 
 pub one-more-accepted : (b : Record) (rs : List Record) (r : Record) → lawful (onStudyDays (b ∷ rs)) ≡ true →
-    (refusalOfAdding (b ∷ rs) r ≡ 0) ↔ ((refusalOf r ≡ 0) × (lawful (onStudyDays (b ∷ rs ++ (r ∷ []))) ≡ true))
+    (refusalOfAdding (b ∷ rs) r ≡ 0) ↔ ((refusalOfRecord r ≡ 0) × (lawful (onStudyDays (b ∷ rs ++ (r ∷ []))) ≡ true))
 unfolding refusalsOfAdding
 one-more-accepted b rs r l =
     let on-day = onStudyDay (dateOf (b .entry)) in
-    let own = none-after-own r (refusalsAfter (onStudyDays (b ∷ rs)) (on-day r)) in
+    let own = none-after-own r (refusalsOfStudyRecordInOrder (onStudyDays (b ∷ rs)) (on-day r)) in
     let more = one-more-in-order (on-day b) (map on-day rs) (on-day r) l in
     rw (map-append on-day rs (r ∷ [])) (λ e. (own .0 e .0, more .0 (own .0 e .1)), λ e. own .1 (e .0, more .1 (e .1)))
 
@@ -95,7 +95,7 @@ accepted-exact b cs five e =
     rw (later .1) (exact-on (on-day b) (map on-day (later .0)) passed (rw (later .1) at (accepted-lawful b cs e)))
 
 pub added-exactly : (b : Record) (cs : List Call) (r : Record) → refusalOfOpening b ≡ 0 →
-    (refusalOfAdding (accepted b cs) r ≡ 0) ↔ ((refusalOf r ≡ 0) × (lawful (onStudyDays (accepted b cs ++ (r ∷ []))) ≡ true))
+    (refusalOfAdding (accepted b cs) r ≡ 0) ↔ ((refusalOfRecord r ≡ 0) × (lawful (onStudyDays (accepted b cs ++ (r ∷ []))) ≡ true))
 added-exactly b cs r e =
     let later = opening-first b [] cs in
     rw (later .1) (one-more-accepted b (later .0) r (rw (later .1) at (accepted-lawful b cs e)))

@@ -20,16 +20,16 @@ use Rattle.records.specs.declared.Entry.{Entry}
 use Rattle.records.specs.declared.Entry.the-variants as E
 use Rattle.records.specs.declared.Record.{Record}
 use Rattle.records.specs.Entries.{dateOf, Five}
-use Rattle.records.specs.Refusals.{mostTargets, withoutDisease, outsideLimits, notZero, refusalOf}
+use Rattle.records.specs.Refusals.{mostTargets, withoutDisease, outsideLimits, notZero, refusalOfRecord}
 use Rattle.records.proofs.NoOwnRefusal.{passes}
 use Rattle.outcome_rules.specs.StudyRecords.{Baseline, StudyRecord, baseline, visit, therapy, death, entryPasses, fieldsPass, studyDay, entryOnStudyDay, onStudyDay}
 use Rattle.outcome_rules.specs.LawfulLists.{Past, latestDay, died, fits, lawfulBehind}
-use Rattle.outcome_rules.specs.Adding.{isBaseline, tooEarly, refusalsBehind}
+use Rattle.outcome_rules.specs.Adding.{isBaseline, tooEarly, refusalsOfStudyRecord}
 use Rattle.outcome_rules.proofs.OneRecordMore.{from-day-1}
 
 -- what holds of 8 to 11 holds of the number of each refusal behind a list
-pub each-behind : (P : ℕ → Type 0) → P 8 → P 9 → P 10 → P 11 → (b : Baseline) (p : Past) (r : StudyRecord) → Each P (refusalsBehind b p r)
-unfolding refusalsBehind
+pub each-behind : (P : ℕ → Type 0) → P 8 → P 9 → P 10 → P 11 → (b : Baseline) (p : Past) (r : StudyRecord) → Each P (refusalsOfStudyRecord b p r)
+unfolding refusalsOfStudyRecord
 each-behind P eight nine ten eleven b p r = (eight, (nine, (ten, (eleven, tt))))
 
 -- that none meets, as one test
@@ -45,17 +45,17 @@ none-clear (r ∷ rs) = go (r .meets) (none-clear rs)
     go true rest = (λ h. absurd (never (h .0)), λ e. absurd (never (sym e)))
     go false rest = (λ h. rest .0 (h .1), λ e. (refl, rest .1 e))
 
-longer-lawful : (b : Baseline) (p : Past) (r : StudyRecord) → lawfulBehind b p ≡ true → lawfulBehind b (r ∷ p) ≡ clear (refusalsBehind b p r)
-unfolding refusalsBehind
+longer-lawful : (b : Baseline) (p : Past) (r : StudyRecord) → lawfulBehind b p ≡ true → lawfulBehind b (r ∷ p) ≡ clear (refusalsOfStudyRecord b p r)
+unfolding refusalsOfStudyRecord
 longer-lawful b p (baseline x) l = rw l (both-with-false (not (died p)))
 longer-lawful b p (visit d v) l = rw (l, not-leb d (latestDay p), Bool·not-not (fits b v), both-with-true (fits b v))
 longer-lawful b p (therapy d) l = rw (l, not-ltb d (latestDay p), both-with-true (leb (latestDay p) d))
 longer-lawful b p (death d) l = rw (l, not-ltb d (latestDay p), both-with-true (leb (latestDay p) d))
 
-pub one-more : (b : Baseline) (p : Past) (r : StudyRecord) → lawfulBehind b p ≡ true → (first (refusalsBehind b p r) ≡ 0) ↔ (lawfulBehind b (r ∷ p) ≡ true)
+pub one-more : (b : Baseline) (p : Past) (r : StudyRecord) → lawfulBehind b p ≡ true → (first (refusalsOfStudyRecord b p r) ≡ 0) ↔ (lawfulBehind b (r ∷ p) ≡ true)
 one-more b p r l =
-    let none = none-meets (refusalsBehind b p r) (each-behind (λ (n : ℕ). 1 ≤ n) (omega arith) (omega arith) (omega arith) (omega arith) b p r) in
-    let test = none-clear (refusalsBehind b p r) in
+    let none = none-meets (refusalsOfStudyRecord b p r) (each-behind (λ (n : ℕ). 1 ≤ n) (omega arith) (omega arith) (omega arith) (omega arith) b p r) in
+    let test = none-clear (refusalsOfStudyRecord b p r) in
     rw (longer-lawful b p r l) (λ e. test .0 (none .0 e), λ e. none .1 (test .1 e))
 
 before-randomisation : (randomisation d : Date) → dayNumber d < dayNumber randomisation → studyDay randomisation d ≡ 0
@@ -88,7 +88,7 @@ fields-on-day randomisation (E.Visit v) marks sizes m s limits zeros = rw (m, s,
 fields-on-day randomisation (E.Therapy d) marks sizes m s limits zeros = refl
 fields-on-day randomisation (E.Death d) marks sizes m s limits zeros = refl
 
-pub own-passed : (randomisation : Date) (r : Record) → Five r → refusalOf r ≡ 0 → fieldsPass (onStudyDay randomisation r) ≡ true
+pub own-passed : (randomisation : Date) (r : Record) → Five r → refusalOfRecord r ≡ 0 → fieldsPass (onStudyDay randomisation r) ≡ true
 own-passed randomisation r five e =
     let own = passes r false false e in
     fields-on-day randomisation (r .entry) (r .marks) (r .sizes) (five .marks) (five .sizes) (own .limits) (own .zeros)

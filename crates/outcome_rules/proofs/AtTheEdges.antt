@@ -3,35 +3,35 @@
 use mathlib.Core.Path.{refl}
 use Rattle.dates.specs.Calendar.{leapYear, daysInMonth, dateExists, daysOfYears, daysOfMonths, dayNumber}
 use Rattle.dates.specs.Answers.{studyDayOf}
-use Rattle.records.specs.Refusals.{wrongSize, largeMeasured, setBeyond, sizedUnmeasured, withoutDisease, outsideLimits, notZero, refusalsOfRead}
-use Rattle.response_rules.specs.SumOfDiameters.{measuredSum, baselineSum, allMeasured}
-use Rattle.response_rules.specs.TargetAnswer.{allGone, grown, shrunk, targetAnswer}
+use Rattle.records.specs.Refusals.{sizeOutsideLimits, measuredOutsideLimits, notZeroBeyondCount, notZeroUnmeasured, withoutDisease, outsideLimits, notZero, refusalsOfRead}
+use Rattle.response_rules.specs.SumOfDiameters.{sumOfDiameters, baselineSum, allMeasured}
+use Rattle.response_rules.specs.TargetAnswer.{allDisappeared, progressionFromNadir, partialResponse, targetAnswer}
 use Rattle.response_rules.specs.Nadir.{afterVisit}
 use Rattle.response_rules.specs.OverallAnswer.{overallBy}
 use Rattle.response_rules.specs.VisitAnswers.{overallAnswer}
 use Rattle.response_rules.specs.Change.{changeBetween, changeOf}
 use Rattle.outcome_rules.specs.StudyRecords.{entryPasses}
 use Rattle.outcome_rules.specs.LawfulLists.{measuredBeyond, fitsBy, fits}
-use Rattle.outcome_rules.specs.Course.{answerAt}
-use Rattle.outcome_rules.specs.Pfs.{gapLimit, earlyDeath, pfs}
+use Rattle.outcome_rules.specs.Course.{overallAt}
+use Rattle.outcome_rules.specs.Pfs.{gapLimit, earlyDeathLimit, pfs}
 use Rattle.outcome_rules.specs.BestResponse.{best}
 use Rattle.outcome_rules.specs.Duration.{duration}
-use Rattle.outcome_rules.specs.VisitLines.{lineOf}
+use Rattle.outcome_rules.specs.VisitLines.{lineOfVisit}
 use Rattle.outcome_rules.specs.Settled.{settledFrom, pfsSettledBy, bestSettledBy, durationSettledBy, pfsSettled, bestSettled, durationSettled}
-use Rattle.outcome_rules.specs.Adding.{refusalsBehind, refusalsOfOpening, refusalsOfAdding}
+use Rattle.outcome_rules.specs.Adding.{refusalsOfStudyRecord, refusalsOfOpening, refusalsOfAdding}
 use Rattle.outcome_rules.specs.StarredExamples.{starred, Hold}
 use Rattle.outcome_rules.specs.FurtherExamples.{WordsOfCases, CoursesOfRecords, further, PrintedLines, FieldsThatPass}
 use Rattle.outcome_rules.specs.AddingExamples.{Unlawful, FittingStatuses, OnStudyDays, FirstRefusals, RepliedOfVisits}
 
 pub examples-hold : Hold starred × Hold further
-unfolding starred further entryPasses wrongSize largeMeasured setBeyond sizedUnmeasured withoutDisease outsideLimits notZero measuredBeyond fitsBy fits measuredSum baselineSum allMeasured allGone grown shrunk targetAnswer afterVisit overallBy overallAnswer answerAt gapLimit earlyDeath pfs best duration settledFrom pfsSettledBy bestSettledBy durationSettledBy pfsSettled bestSettled durationSettled
+unfolding starred further entryPasses sizeOutsideLimits measuredOutsideLimits notZeroBeyondCount notZeroUnmeasured withoutDisease outsideLimits notZero measuredBeyond fitsBy fits sumOfDiameters baselineSum allMeasured allDisappeared progressionFromNadir partialResponse targetAnswer afterVisit overallBy overallAnswer overallAt gapLimit earlyDeathLimit pfs best duration settledFrom pfsSettledBy bestSettledBy durationSettledBy pfsSettled bestSettled durationSettled
 examples-hold = (record { lists = refl; visits = refl; answers = refl }, record { lists = refl; visits = refl; answers = refl })
 
 pub words-of-cases : WordsOfCases
 words-of-cases = record { days = refl; statuses = refl; pfs = refl; best = refl; judged = refl; durations = refl }
 
 pub courses-of-records : CoursesOfRecords
-unfolding measuredSum baselineSum allMeasured allGone grown shrunk targetAnswer afterVisit overallBy overallAnswer answerAt
+unfolding sumOfDiameters baselineSum allMeasured allDisappeared progressionFromNadir partialResponse targetAnswer afterVisit overallBy overallAnswer overallAt
 courses-of-records =
     record {
       eachKind = refl;
@@ -69,11 +69,11 @@ unfolding measuredBeyond fitsBy fits
 fitting-statuses = record { withLesions = refl; withoutLesions = refl }
 
 pub printed-lines : PrintedLines
-unfolding lineOf answerAt measuredSum baselineSum allMeasured allGone grown shrunk targetAnswer afterVisit overallBy overallAnswer changeBetween changeOf
+unfolding lineOfVisit overallAt sumOfDiameters baselineSum allMeasured allDisappeared progressionFromNadir partialResponse targetAnswer afterVisit overallBy overallAnswer changeBetween changeOf
 printed-lines = record { inOrder = refl; afterProgression = refl }
 
 pub fields-that-pass : FieldsThatPass
-unfolding entryPasses wrongSize largeMeasured setBeyond sizedUnmeasured withoutDisease outsideLimits notZero
+unfolding entryPasses sizeOutsideLimits measuredOutsideLimits notZeroBeyondCount notZeroUnmeasured withoutDisease outsideLimits notZero
 fields-that-pass =
     record {
       largest = refl;
@@ -94,7 +94,7 @@ on-study-days =
     }
 
 pub first-refusals : FirstRefusals
-unfolding refusalsOfOpening refusalsOfAdding refusalsBehind refusalsOfRead dateExists daysInMonth leapYear daysOfYears daysOfMonths dayNumber studyDayOf measuredBeyond fitsBy fits wrongSize largeMeasured setBeyond sizedUnmeasured withoutDisease outsideLimits notZero
+unfolding refusalsOfOpening refusalsOfAdding refusalsOfStudyRecord refusalsOfRead dateExists daysInMonth leapYear daysOfYears daysOfMonths dayNumber studyDayOf measuredBeyond fitsBy fits sizeOutsideLimits measuredOutsideLimits notZeroBeyondCount notZeroUnmeasured withoutDisease outsideLimits notZero
 first-refusals =
     record {
       opens = refl;
@@ -127,7 +127,7 @@ first-refusals =
     }
 
 pub replied-of-visits : RepliedOfVisits
-unfolding refusalsOfAdding refusalsBehind refusalsOfRead dateExists daysInMonth leapYear daysOfYears daysOfMonths dayNumber studyDayOf measuredBeyond fitsBy fits wrongSize largeMeasured setBeyond sizedUnmeasured withoutDisease outsideLimits notZero lineOf answerAt measuredSum baselineSum allMeasured allGone grown shrunk targetAnswer afterVisit overallBy overallAnswer changeBetween changeOf
+unfolding refusalsOfAdding refusalsOfStudyRecord refusalsOfRead dateExists daysInMonth leapYear daysOfYears daysOfMonths dayNumber studyDayOf measuredBeyond fitsBy fits sizeOutsideLimits measuredOutsideLimits notZeroBeyondCount notZeroUnmeasured withoutDisease outsideLimits notZero lineOfVisit overallAt sumOfDiameters baselineSum allMeasured allDisappeared progressionFromNadir partialResponse targetAnswer afterVisit overallBy overallAnswer changeBetween changeOf
 replied-of-visits =
     record {
       visit = refl;

@@ -8,7 +8,7 @@ use Rattle.response_rules.proofs.Laws.{overall-laws}
 use Rattle.outcome_rules.specs.Values.{none}
 use Rattle.outcome_rules.specs.StudyRecords.{Baseline, baseline, visit, therapy, death, disease}
 use Rattle.outcome_rules.specs.LawfulLists.{Past}
-use Rattle.outcome_rules.specs.Course.{visitsOf, Judged, answerAt, course, visitsIn, firstPD}
+use Rattle.outcome_rules.specs.Course.{visitsOf, Judged, overallAt, course, visitsIn, firstPD}
 use Rattle.outcome_rules.specs.Pfs.{beforeEvent, lastEvaluable}
 
 abbrev pub AllNE : List Judged → Type 0
@@ -16,7 +16,7 @@ AllNE [] = Unit {0}
 AllNE (j ∷ js) = (j .answer ≡ NE) × AllNE js
 
 pub missing-visits : (b : Baseline) (p : Past) → b .assessed ≡ false → AllNE (visitsIn (course b p))
-unfolding answerAt
+unfolding overallAt
 missing-visits b [] m = tt
 missing-visits b (baseline x ∷ p) m = missing-visits b p m
 missing-visits b (visit d v ∷ p) m = (overall-laws .missing (disease b) (visitsOf p) v m, missing-visits b p m)

@@ -14,16 +14,16 @@ use Rattle.records.specs.Entries.{statusNumber}
 use Rattle.records.specs.declared.BaselineEntry.{BaselineEntry}
 use Rattle.records.specs.declared.Entry.{Entry}
 use Rattle.records.specs.declared.Entry.the-variants as E
-use Rattle.records.specs.Refusals.{mostTargets, wrongSize, largeMeasured, sizedUnmeasured, someTarget, withoutDisease, outsideLimits, notZero}
+use Rattle.records.specs.Refusals.{mostTargets, sizeOutsideLimits, measuredOutsideLimits, notZeroUnmeasured, someTarget, withoutDisease, outsideLimits, notZero}
 use Rattle.response_rules.specs.Words.{CR, NA, statusWord}
 use Rattle.response_rules.specs.Inputs.{Visit}
 use Rattle.response_rules.specs.SumOfDiameters.{allMeasured}
-use Rattle.response_rules.specs.TargetAnswer.{gone, allGone, targetAnswer}
+use Rattle.response_rules.specs.TargetAnswer.{disappeared, allDisappeared, targetAnswer}
 use Rattle.response_rules.specs.OverallAnswer.{overallBy}
-use Rattle.response_rules.specs.VisitAnswers.{overallAnswer, visitTarget, visitOverall}
+use Rattle.response_rules.specs.VisitAnswers.{overallAnswer, targetAnswerAfter, overallAnswerAfter}
 use Rattle.outcome_rules.specs.StudyRecords.{Baseline, baseline, visit, disease, entryPasses, entryOfBaseline, fieldsPass}
 use Rattle.outcome_rules.specs.LawfulLists.{Past, latestDay, died, measuredBeyond, fitsBy, fits, lawfulBehind}
-use Rattle.outcome_rules.specs.Course.{visitsOf, answerAt}
+use Rattle.outcome_rules.specs.Course.{visitsOf, overallAt}
 
 -- every target measured with size 0, non-target disease CR where there was some
 unfoldable pub completeVisit : Baseline → Visit
@@ -50,17 +50,17 @@ not-both count i = go (ltb i count) refl
     go true e = rw (lt-leb count i (ltb-true i count e))
     go false e = rw (le-leb count i (ltb-false i count e))
 
-gone-zero : (node : Bool) → gone node 0 ≡ true
+gone-zero : (node : Bool) → disappeared node 0 ≡ true
 gone-zero true = refl
 gone-zero false = refl
 
-not-large : (m : Bool) → largeMeasured m 0 ≡ false
-unfolding largeMeasured
+not-large : (m : Bool) → measuredOutsideLimits m 0 ≡ false
+unfolding measuredOutsideLimits
 not-large true = refl
 not-large false = refl
 
-not-sized : (m : Bool) → sizedUnmeasured m 0 ≡ false
-unfolding sizedUnmeasured
+not-sized : (m : Bool) → notZeroUnmeasured m 0 ≡ false
+unfolding notZeroUnmeasured
 not-sized true = refl
 not-sized false = refl
 
@@ -78,7 +78,7 @@ with-disease : (b : BaselineEntry) (marks : List Bool) (sizes : List ℕ) → ou
     withoutDisease b ≡ false
 unfolding outsideLimits withoutDisease
 with-disease b marks sizes e assessed =
-    let wrong = someTarget (wrongSize (b .count)) marks sizes in
+    let wrong = someTarget (sizeOutsideLimits (b .count)) marks sizes in
     let limits : either (ltb mostTargets (b .count)) (either (withoutDisease b) wrong) ≡ false = rw assessed at e in
     either-false (withoutDisease b) wrong (either-false (ltb mostTargets (b .count)) (either (withoutDisease b) wrong) limits .1) .0
 
@@ -88,11 +88,11 @@ module _ (b : Baseline) where
   complete-measured =
       rw (within-or-beyond (b .count) 0, within-or-beyond (b .count) 1, within-or-beyond (b .count) 2, within-or-beyond (b .count) 3, within-or-beyond (b .count) 4)
 
-  complete-gone : allGone (b .count) (b .nodes) (completeVisit b .sizes) ≡ true
-  unfolding allGone completeVisit
+  complete-gone : allDisappeared (b .count) (b .nodes) (completeVisit b .sizes) ≡ true
+  unfolding allDisappeared completeVisit
   complete-gone = simp (gone-zero, either-with-true)
 
-  complete-target : (vs : List Visit) → visitTarget (disease b) vs (completeVisit b) ≡ pick (eqb (b .count) 0) NA CR
+  complete-target : (vs : List Visit) → targetAnswerAfter (disease b) vs (completeVisit b) ≡ pick (eqb (b .count) 0) NA CR
   unfolding targetAnswer
   complete-target vs = rw (complete-measured, complete-gone)
 
@@ -103,7 +103,7 @@ module _ (b : Baseline) where
       with-disease (entryOfBaseline b) (b .nodes) (b .sizes) (limits-and-zeros (E.Baseline (entryOfBaseline b)) (b .nodes) (b .sizes) passes .0) assessed
 
   complete-overall : (vs : List Visit) → fieldsPass (baseline b) ≡ true → b .assessed ≡ true →
-      visitOverall (disease b) vs (completeVisit b) ≡ CR
+      overallAnswerAfter (disease b) vs (completeVisit b) ≡ CR
   unfolding overallBy overallAnswer completeVisit
   complete-overall vs passes assessed = rw (complete-target vs, assessed) (go (eqb (b .count) 0) (b .nontarget) (has-disease passes assessed))
     where
@@ -113,8 +113,8 @@ module _ (b : Baseline) where
       go false true e = refl
       go false false e = refl
 
-  pub complete-answer : (p : Past) → fieldsPass (baseline b) ≡ true → b .assessed ≡ true → answerAt b p (completeVisit b) ≡ CR
-  unfolding answerAt completeVisit
+  pub complete-answer : (p : Past) → fieldsPass (baseline b) ≡ true → b .assessed ≡ true → overallAt b p (completeVisit b) ≡ CR
+  unfolding overallAt completeVisit
   complete-answer p passes assessed = complete-overall (visitsOf p) passes assessed
 
   complete-fits : fits b (completeVisit b) ≡ true

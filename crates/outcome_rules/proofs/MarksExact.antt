@@ -11,8 +11,8 @@ use Rattle.laws.proofs.Tests.{never, either-with-true}
 use Rattle.outcome_rules.specs.Values.{none, isRecorded, exists}
 use Rattle.outcome_rules.specs.StudyRecords.{Baseline, baseline, fieldsPass}
 use Rattle.outcome_rules.specs.LawfulLists.{Past, lawfulBehind}
-use Rattle.outcome_rules.specs.Course.{Course, course, latestIn, deathIn, treated, progression}
-use Rattle.outcome_rules.specs.Pfs.{earlyDeath, pfs}
+use Rattle.outcome_rules.specs.Course.{Course, course, latestDayIn, deathDayIn, therapyRecorded, progression}
+use Rattle.outcome_rules.specs.Pfs.{earlyDeathLimit, pfs}
 use Rattle.outcome_rules.specs.BestResponse.{isCR, isResponse, best}
 use Rattle.outcome_rules.specs.Duration.{duration}
 use Rattle.outcome_rules.specs.Settled.{settledFrom, pfsSettledBy, bestSettledBy, durationSettledBy, pfsSettled, bestSettled, durationSettled}
@@ -34,51 +34,51 @@ fails e n = (λ t. absurd (never (sym t ∙ e)), λ x. absurd (n x))
 module _ (assessed : Bool) (c : Course) {A : Type 0} where
   -- PFS's mark is true exactly when A holds, where A follows from each reason for PFS to last and is false without one
   pfs-mark : (PfsOver assessed c → A) →
-      (deathIn c ≡ none → assessed ≡ true → progression c ≡ none → A → ⊥) →
-      (deathIn c ≡ none → assessed ≡ false → latestIn c - 1 ≤ earlyDeath → A → ⊥) →
+      (deathDayIn c ≡ none → assessed ≡ true → progression c ≡ none → A → ⊥) →
+      (deathDayIn c ≡ none → assessed ≡ false → latestDayIn c - 1 ≤ earlyDeathLimit → A → ⊥) →
       (pfsSettled assessed c ≡ true) ↔ A
   unfolding pfsSettled pfsSettledBy settledFrom
   pfs-mark over assessed-open missing-open =
-      go assessed refl (isRecorded (progression c)) refl (isRecorded (deathIn c)) refl (leb settledFrom (latestIn c)) refl
+      go assessed refl (isRecorded (progression c)) refl (isRecorded (deathDayIn c)) refl (leb settledFrom (latestDayIn c)) refl
     where
-      is : (a g d : Bool) → assessed ≡ a → isRecorded (progression c) ≡ g → isRecorded (deathIn c) ≡ d → pfsSettled assessed c ≡ pfsSettledBy a g d (latestIn c)
+      is : (a g d : Bool) → assessed ≡ a → isRecorded (progression c) ≡ g → isRecorded (deathDayIn c) ≡ d → pfsSettled assessed c ≡ pfsSettledBy a g d (latestDayIn c)
       is a g d ea eg ed = cc
 
-      go : (a : Bool) → assessed ≡ a → (g : Bool) → isRecorded (progression c) ≡ g → (d : Bool) → isRecorded (deathIn c) ≡ d →
-          (t : Bool) → leb settledFrom (latestIn c) ≡ t → (pfsSettled assessed c ≡ true) ↔ A
+      go : (a : Bool) → assessed ≡ a → (g : Bool) → isRecorded (progression c) ≡ g → (d : Bool) → isRecorded (deathDayIn c) ≡ d →
+          (t : Bool) → leb settledFrom (latestDayIn c) ≡ t → (pfsSettled assessed c ≡ true) ↔ A
       go true ea true eg d ed t et = holds (is true true d ea eg ed) (over (progressed eg))
       go true ea false eg true ed t et = holds (is true false true ea eg ed) (over (dead ed))
-      go true ea false eg false ed t et = fails (is true false false ea eg ed) (assessed-open (absent (deathIn c) ed) ea (absent (progression c) eg))
+      go true ea false eg false ed t et = fails (is true false false ea eg ed) (assessed-open (absent (deathDayIn c) ed) ea (absent (progression c) eg))
       go false ea g eg true ed t et = holds (is false g true ea eg ed) (over (dead ed))
       go false ea g eg false ed true et =
-          let h = leb-true settledFrom (latestIn c) et in
+          let h = leb-true settledFrom (latestDayIn c) et in
           holds (is false g false ea eg ed ∙ et) (over (late ea (omega arith)))
       go false ea g eg false ed false et =
-          let h = leb-false settledFrom (latestIn c) et in
-          fails (is false g false ea eg ed ∙ et) (missing-open (absent (deathIn c) ed) ea (omega arith))
+          let h = leb-false settledFrom (latestDayIn c) et in
+          fails (is false g false ea eg ed ∙ et) (missing-open (absent (deathDayIn c) ed) ea (omega arith))
 
   -- best response's mark likewise
   best-mark : (BestOver assessed c → A) →
-      (deathIn c ≡ none → assessed ≡ true → treated c ≡ false → progression c ≡ none → isCR (best c) ≡ false → A → ⊥) →
+      (deathDayIn c ≡ none → assessed ≡ true → therapyRecorded c ≡ false → progression c ≡ none → isCR (best c) ≡ false → A → ⊥) →
       (bestSettled assessed c ≡ true) ↔ A
   unfolding bestSettled bestSettledBy
   best-mark over open-still =
-      go (isRecorded (progression c)) refl (treated c) refl (isRecorded (deathIn c)) refl assessed refl (isCR (best c)) refl
+      go (isRecorded (progression c)) refl (therapyRecorded c) refl (isRecorded (deathDayIn c)) refl assessed refl (isCR (best c)) refl
     where
-      is : (g t d a : Bool) → isRecorded (progression c) ≡ g → treated c ≡ t → isRecorded (deathIn c) ≡ d → assessed ≡ a →
+      is : (g t d a : Bool) → isRecorded (progression c) ≡ g → therapyRecorded c ≡ t → isRecorded (deathDayIn c) ≡ d → assessed ≡ a →
           bestSettled assessed c ≡ bestSettledBy g t d a (best c)
       is g t d a eg et ed ea = cc
 
-      go : (g : Bool) → isRecorded (progression c) ≡ g → (t : Bool) → treated c ≡ t → (d : Bool) → isRecorded (deathIn c) ≡ d →
+      go : (g : Bool) → isRecorded (progression c) ≡ g → (t : Bool) → therapyRecorded c ≡ t → (d : Bool) → isRecorded (deathDayIn c) ≡ d →
           (a : Bool) → assessed ≡ a → (x : Bool) → isCR (best c) ≡ x → (bestSettled assessed c ≡ true) ↔ A
-      go true eg t et d ed a ea x ex = holds (is true t d a eg et ed ea) (over (counted (closed (rw eg (either-with-true (treated c))))))
+      go true eg t et d ed a ea x ex = holds (is true t d a eg et ed ea) (over (counted (closed (rw eg (either-with-true (therapyRecorded c))))))
       go false eg true et d ed a ea x ex = holds (is false true d a eg et ed ea) (over (counted (closed (rw et))))
       go false eg false et true ed a ea x ex = holds (is false false true a eg et ed ea) (over (counted (afterDeath ed)))
       go false eg false et false ed false ea x ex = holds (is false false false false eg et ed ea) (over (counted (missing ea)))
       go false eg false et false ed true ea true ex =
           holds (is false false false true eg et ed ea ∙ ex) (over (complete (sym (words-of-best c .0) ∙ ex)))
       go false eg false et false ed true ea false ex =
-          fails (is false false false true eg et ed ea ∙ ex) (open-still (absent (deathIn c) ed) ea et (absent (progression c) eg) ex)
+          fails (is false false false true eg et ed ea ∙ ex) (open-still (absent (deathDayIn c) ed) ea et (absent (progression c) eg) ex)
 
 module _ (b : Baseline) (p : Past) (passes : fieldsPass (baseline b) ≡ true) (lawfully : lawfulBehind b p ≡ true) where
   abbrev c : Course

@@ -9,7 +9,7 @@ use Rattle.outcome_rules.specs.Values.{Outcome}
 use Rattle.outcome_rules.specs.StudyRecords.{Baseline, StudyRecord, fieldsPass, allPass}
 use Rattle.outcome_rules.specs.LawfulLists.{Past, lawfulBehind}
 use Rattle.outcome_rules.specs.Settled.{outcome}
-use Rattle.outcome_rules.specs.MarksExact.{Lasts, LastsInOrder, EveryMarkExactInOrder}
+use Rattle.outcome_rules.specs.MarksExact.{NoRunChanges, NoRunChangesInOrder, EveryMarkExactInOrder}
 use Rattle.outcome_rules.proofs.MarksExact.{every-mark-exact}
 
 pass-append : (rs ss : List StudyRecord) → allPass rs ≡ true → allPass ss ≡ true → allPass (rs ++ ss) ≡ true
@@ -24,7 +24,7 @@ pass-reverse (r ∷ rs) e =
     let parts = both-true (fieldsPass r) (allPass rs) e in
     ap allPass (reverse-append (r ∷ []) rs) ∙ pass-append (reverse rs) (r ∷ []) (pass-reverse rs (parts .1)) (rw (parts .0))
 
-lasts-in-order : {A : Type 0} (part : Outcome → A) (b : Baseline) (rs : List StudyRecord) → Lasts part b (reverse rs) ↔ LastsInOrder part b rs
+lasts-in-order : {A : Type 0} (part : Outcome → A) (b : Baseline) (rs : List StudyRecord) → NoRunChanges part b (reverse rs) ↔ NoRunChangesInOrder part b rs
 lasts-in-order part b rs = (
   λ lasts run passes l.
       ap (λ (p : Past). part (outcome b p)) (reverse-append rs run)

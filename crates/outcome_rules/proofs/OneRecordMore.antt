@@ -10,8 +10,8 @@ use borrow.Author.Tests.{leb-true, ltb-true, not-true}
 use Rattle.laws.proofs.Tests.{never, both-true}
 use Rattle.outcome_rules.specs.Values.{Day, none, on, isRecorded, _orElse_}
 use Rattle.outcome_rules.specs.StudyRecords.{Baseline, StudyRecord, baseline, visit, therapy, death, dayOf, allPass}
-use Rattle.outcome_rules.specs.LawfulLists.{Past, latestDay, deathDay, died, fits, placed, lawfulBehind}
-use Rattle.outcome_rules.specs.Course.{Occurrence, visited, therapyOn, deathOn, Course, judge, course, dayIn, latestIn, deathIn, visitsIn}
+use Rattle.outcome_rules.specs.LawfulLists.{Past, latestDay, deathDay, died, fits, lawfulNext, lawfulBehind}
+use Rattle.outcome_rules.specs.Course.{Occurrence, judgedVisit, therapyOn, deathOn, Course, judge, course, dayIn, latestDayIn, deathDayIn, visitsIn}
 use Rattle.outcome_rules.proofs.BaselineMissing.{AllNE, missing-visits}
 
 pub recorded-on : (x : Day) → isRecorded x ≡ true → (d : ℕ) × (x ≡ on d)
@@ -30,7 +30,7 @@ recorded-keeps (on d) y e = refl
 pub record Next (b : Baseline) (p : Past) (r : StudyRecord) : Type 0 where
   pub before : lawfulBehind b p ≡ true
   pub alive : died p ≡ false
-  pub place : placed b (latestDay p) r ≡ true
+  pub place : lawfulNext b (latestDay p) r ≡ true
 
 pub next : (b : Baseline) (p : Past) (r : StudyRecord) → lawfulBehind b (r ∷ p) ≡ true → Next b p r
 next b p r l =
@@ -39,7 +39,7 @@ next b p r l =
     record { before = whole .0; alive = not-true (died p) (rest .0); place = rest .1 }
 
 -- no day is before the latest so far
-pub rising : (b : Baseline) (latest : ℕ) (r : StudyRecord) → placed b latest r ≡ true → latest ≤ dayOf r
+pub rising : (b : Baseline) (latest : ℕ) (r : StudyRecord) → lawfulNext b latest r ≡ true → latest ≤ dayOf r
 rising b latest (baseline x) e = absurd (never (sym e))
 rising b latest (visit d v) e = let h = ltb-true latest d (both-true (ltb latest d) (fits b v) e .0) in omega arith
 rising b latest (therapy d) e = leb-true latest d e
@@ -54,19 +54,19 @@ from-day-1 (r ∷ p) = let h = from-day-1 p in omega arith
 
 -- ---- the course of a list
 
-pub from-day-1-in : (c : Course) → 1 ≤ latestIn c
+pub from-day-1-in : (c : Course) → 1 ≤ latestDayIn c
 from-day-1-in [] = omega arith
 from-day-1-in (e ∷ c) = let h = from-day-1-in c in omega arith
 
 module _ (b : Baseline) where
-  pub latest-in : (p : Past) → latestIn (course b p) ≡ latestDay p
+  pub latest-in : (p : Past) → latestDayIn (course b p) ≡ latestDay p
   latest-in [] = refl
   latest-in (baseline x ∷ p) = let h = latest-in p in let one = from-day-1 p in omega arith
   latest-in (visit d v ∷ p) = rw (latest-in p)
   latest-in (therapy d ∷ p) = rw (latest-in p)
   latest-in (death d ∷ p) = rw (latest-in p)
 
-  pub death-in : (p : Past) → deathIn (course b p) ≡ deathDay p
+  pub death-in : (p : Past) → deathDayIn (course b p) ≡ deathDay p
   death-in [] = refl
   death-in (baseline x ∷ p) = death-in p
   death-in (visit d v ∷ p) = death-in p
@@ -75,8 +75,8 @@ module _ (b : Baseline) where
 
 -- what a lawful list says of its newest occurrence
 pub record Follows (assessed : Bool) (c : Course) (e : Occurrence) : Type 0 where
-  pub alive : deathIn c ≡ none
-  pub later : latestIn c ≤ dayIn e
+  pub alive : deathDayIn c ≡ none
+  pub later : latestDayIn c ≤ dayIn e
   pub unassessed : assessed ≡ false → AllNE (visitsIn (e ∷ c))
 
 follows : (b : Baseline) (p : Past) (r : StudyRecord) (e : Occurrence) → lawfulBehind b (r ∷ p) ≡ true → course b (r ∷ p) ≡ e ∷ course b p → dayIn e ≡ dayOf r →
@@ -104,7 +104,7 @@ lasts-by part Reason b keep p why run passes l = go run l .1
     step : (p : Past) (r : StudyRecord) → lawfulBehind b (r ∷ p) ≡ true → Reason (course b p) →
         Reason (course b (r ∷ p)) × (part (course b (r ∷ p)) ≡ part (course b p))
     step p (baseline x) l w = (w, refl)
-    step p (visit d v) l w = keep (course b p) (visited (judge b p d v)) (follows b p (visit d v) (visited (judge b p d v)) l refl refl) w
+    step p (visit d v) l w = keep (course b p) (judgedVisit (judge b p d v)) (follows b p (visit d v) (judgedVisit (judge b p d v)) l refl refl) w
     step p (therapy d) l w = keep (course b p) (therapyOn d) (follows b p (therapy d) (therapyOn d) l refl refl) w
     step p (death d) l w = keep (course b p) (deathOn d) (follows b p (death d) (deathOn d) l refl refl) w
 

@@ -10,24 +10,24 @@ use Rattle.response_rules.specs.Words.{CR}
 use Rattle.outcome_rules.specs.Values.{none}
 use Rattle.outcome_rules.specs.StudyRecords.{Baseline, baseline, visit, death, fieldsPass}
 use Rattle.outcome_rules.specs.LawfulLists.{Past, latestDay, died, lawfulBehind}
-use Rattle.outcome_rules.specs.Course.{Occurrence, visited, deathOn, Course, course, latestIn, deathIn}
-use Rattle.outcome_rules.specs.BestResponse.{confirmDays}
+use Rattle.outcome_rules.specs.Course.{Occurrence, judgedVisit, deathOn, Course, course, latestDayIn, deathDayIn}
+use Rattle.outcome_rules.specs.BestResponse.{confirmationDays}
 use Rattle.outcome_rules.proofs.OneRecordMore.{latest-in, death-in, Unchanged}
 use Rattle.outcome_rules.proofs.CompleteVisit.{completeVisit, complete-answer, complete-passes, complete-lawful}
 
 abbrev pub crOn : ℕ → Occurrence
-crOn d = visited (record { day = d; answer = CR })
+crOn d = judgedVisit (record { day = d; answer = CR })
 
 abbrev pub oneMore : Course → Course
-oneMore c = crOn (suc (latestIn c)) ∷ c
+oneMore c = crOn (suc (latestDayIn c)) ∷ c
 
 abbrev pub twoMore : Course → Course
-twoMore c = crOn (suc (latestIn c) + confirmDays) ∷ oneMore c
+twoMore c = crOn (suc (latestDayIn c) + confirmationDays) ∷ oneMore c
 
 abbrev pub deathNow : Course → Course
-deathNow c = deathOn (latestIn c) ∷ c
+deathNow c = deathOn (latestDayIn c) ∷ c
 
-module _ {A : Type 0} (part : Course → A) (b : Baseline) (p : Past) (lawfully : lawfulBehind b p ≡ true) (alive : deathIn (course b p) ≡ none)
+module _ {A : Type 0} (part : Course → A) (b : Baseline) (p : Past) (lawfully : lawfulBehind b p ≡ true) (alive : deathDayIn (course b p) ≡ none)
     (lasts : Unchanged part b p) where
   abbrev day : ℕ
   day = latestDay p
@@ -55,5 +55,5 @@ module _ {A : Type 0} (part : Course → A) (b : Baseline) (p : Past) (lawfully 
     same-after-two =
         rw (latest-in b p)
         (rw (complete-answer b p passes assessed, complete-answer b more passes assessed) at
-        (lasts (visit (suc day + confirmDays) (completeVisit b) ∷ visit (suc day) (completeVisit b) ∷ []) (rw (complete-passes b (suc day)))
-        (complete-lawful b more (suc day + confirmDays) one-more-lawful living (omega arith))))
+        (lasts (visit (suc day + confirmationDays) (completeVisit b) ∷ visit (suc day) (completeVisit b) ∷ []) (rw (complete-passes b (suc day)))
+        (complete-lawful b more (suc day + confirmationDays) one-more-lawful living (omega arith))))

@@ -10,10 +10,10 @@ use Rattle.laws.specs.Refusals.{Refusal, _when_, first}
 use Rattle.records.specs.declared.Entry.{Entry}
 use Rattle.records.specs.declared.Record.{Record}
 use Rattle.records.specs.Entries.{dateOf, kindNumber}
-use Rattle.records.specs.Refusals.{refusalsOf}
+use Rattle.records.specs.Refusals.{refusalsOfRecord}
 use Rattle.outcome_rules.specs.StudyRecords.{Baseline, StudyRecord, baseline, visit, therapy, death, onStudyDay, onStudyDays, fromBaseline}
 use Rattle.outcome_rules.specs.LawfulLists.{Past, latestDay, died, fits}
-use Rattle.outcome_rules.specs.VisitLines.{VisitLine, linesOf}
+use Rattle.outcome_rules.specs.VisitLines.{VisitLine, linesOfRecord}
 
 abbrev pub isBaseline : StudyRecord → Bool
 isBaseline (baseline b) = true
@@ -34,8 +34,8 @@ misfits b (therapy d) = false
 misfits b (death d) = false
 
 -- 8 a baseline; 9 after a death; 10 day too early; 11 visit doesn't fit baseline
-unfoldable pub refusalsBehind : Baseline → Past → StudyRecord → List Refusal
-refusalsBehind b p r =
+unfoldable pub refusalsOfStudyRecord : Baseline → Past → StudyRecord → List Refusal
+refusalsOfStudyRecord b p r =
     8 when isBaseline r
     ∷ 9 when died p
     ∷ 10 when tooEarly (latestDay p) r
@@ -43,15 +43,15 @@ refusalsBehind b p r =
     ∷ []
 
 -- behind a list in the order recorded; every list of accepted records opens with a baseline, and for any other the answer is 7, which adding never gives
-abbrev pub refusalsAfter : List StudyRecord → StudyRecord → List Refusal
-refusalsAfter rs r = fromBaseline (7 when true ∷ []) (λ (b : Baseline) (rs : List StudyRecord). refusalsBehind b (reverse rs) r) rs
+abbrev pub refusalsOfStudyRecordInOrder : List StudyRecord → StudyRecord → List Refusal
+refusalsOfStudyRecordInOrder rs r = fromBaseline (7 when true ∷ []) (λ (b : Baseline) (rs : List StudyRecord). refusalsOfStudyRecord b (reverse rs) r) rs
 
 abbrev pub notBaseline : Entry → Bool
 notBaseline e = not (eqb (kindNumber e) 1)
 
 -- 3 to 5, then 7
 unfoldable pub refusalsOfOpening : Record → List Refusal
-refusalsOfOpening r = refusalsOf r ++ 7 when notBaseline (r .entry) ∷ []
+refusalsOfOpening r = refusalsOfRecord r ++ 7 when notBaseline (r .entry) ∷ []
 
 -- the first that meets, 0 for none
 abbrev pub refusalOfOpening : Record → ℕ
@@ -59,8 +59,8 @@ refusalOfOpening r = first (refusalsOfOpening r)
 
 -- adding, judged against the records accepted so far, baseline first: 3 to 5, then 8 to 11
 unfoldable pub refusalsOfAdding : List Record → Record → List Refusal
-refusalsOfAdding [] r = refusalsOf r ++ 7 when true ∷ []
-refusalsOfAdding (b ∷ rs) r = refusalsOf r ++ refusalsAfter (onStudyDays (b ∷ rs)) (onStudyDay (dateOf (b .entry)) r)
+refusalsOfAdding [] r = refusalsOfRecord r ++ 7 when true ∷ []
+refusalsOfAdding (b ∷ rs) r = refusalsOfRecord r ++ refusalsOfStudyRecordInOrder (onStudyDays (b ∷ rs)) (onStudyDay (dateOf (b .entry)) r)
 
 -- the first that meets, 0 for none
 abbrev pub refusalOfAdding : List Record → Record → ℕ
@@ -68,7 +68,7 @@ refusalOfAdding rs r = first (refusalsOfAdding rs r)
 
 -- the responses at a visit behind a list in the order recorded; no other record has them
 abbrev pub linesAfter : List StudyRecord → StudyRecord → List VisitLine
-linesAfter rs r = fromBaseline [] (λ (b : Baseline) (rs : List StudyRecord). linesOf b (reverse rs) r) rs
+linesAfter rs r = fromBaseline [] (λ (b : Baseline) (rs : List StudyRecord). linesOfRecord b (reverse rs) r) rs
 
 -- what an addition replies of a visit, by the number of its refusal: beside a refusal nothing
 abbrev pub responsesOfAdding : List Record → Record → List VisitLine

@@ -64,17 +64,17 @@ pub record FittingStatuses : Type 0 where
 abbrev pub printedBaseline : Date → Record
 printedBaseline d = baselineDated d true true 2 (false ∷ true ∷ []) (40 ∷ 20 ∷ [])
 
-abbrev pub opened : Record
-opened = printedBaseline (ymd 2020 1 1)
+abbrev pub printedOpening : Record
+printedOpening = printedBaseline (ymd 2020 1 1)
 
-abbrev pub visited : Record
-visited = visitDated (ymd 2020 2 12) S.NN false (true ∷ true ∷ []) (24 ∷ 12 ∷ [])
+abbrev pub printedVisit43 : Record
+printedVisit43 = visitDated (ymd 2020 2 12) S.NN false (true ∷ true ∷ []) (24 ∷ 12 ∷ [])
 
 -- days 1, 43, 85 and 127 of the printed example, with a record of each kind
 pub record OnStudyDays : Type 0 where
   pub eachKind : onStudyDays
-      (opened
-      ∷ visited
+      (printedOpening
+      ∷ printedVisit43
       ∷ visitDated (ymd 2020 3 25) S.PD true (true ∷ []) (24 ∷ [])
       ∷ therapyDated (ymd 2020 3 25)
       ∷ deathDated (ymd 2020 5 6)
@@ -84,47 +84,47 @@ pub record OnStudyDays : Type 0 where
 
 pub record FirstRefusals : Type 0 where
   -- opening: 3 to 5, then 7
-  pub opens : refusalOfOpening opened ≡ 0
+  pub opens : refusalOfOpening printedOpening ≡ 0
   pub opensMissing : refusalOfOpening (baselineDated (ymd 2020 1 1) false false 0 [] []) ≡ 0
   pub opensWithoutDate : refusalOfOpening (visitDated (ymd 2021 2 29) S.NN false (true ∷ []) (501 ∷ [])) ≡ 3
   pub opensWithLargeVisit : refusalOfOpening (visitDated (ymd 2020 2 12) S.NN false (true ∷ []) (501 ∷ [])) ≡ 4
   pub opensWithoutDisease : refusalOfOpening (baselineDated (ymd 2020 1 1) true false 0 [] []) ≡ 4
   pub opensMissingWithCount : refusalOfOpening (baselineDated (ymd 2020 1 1) false false 1 [] []) ≡ 5
-  pub opensWithVisit : refusalOfOpening visited ≡ 7
+  pub opensWithVisit : refusalOfOpening printedVisit43 ≡ 7
   pub opensWithTherapy : refusalOfOpening (therapyDated (ymd 2020 1 1)) ≡ 7
   -- adding: the record's own first
-  pub withoutDate : refusalOfAdding (opened ∷ []) (printedBaseline (ymd 2021 2 29)) ≡ 3
-  pub largeSize : refusalOfAdding (opened ∷ []) (visitDated (ymd 2020 1 1) S.NN false (true ∷ []) (501 ∷ [])) ≡ 4
-  pub sizeUnmeasured : refusalOfAdding (opened ∷ []) (visitDated (ymd 2020 1 1) S.NN false [] (12 ∷ [])) ≡ 5
+  pub withoutDate : refusalOfAdding (printedOpening ∷ []) (printedBaseline (ymd 2021 2 29)) ≡ 3
+  pub largeSize : refusalOfAdding (printedOpening ∷ []) (visitDated (ymd 2020 1 1) S.NN false (true ∷ []) (501 ∷ [])) ≡ 4
+  pub sizeUnmeasured : refusalOfAdding (printedOpening ∷ []) (visitDated (ymd 2020 1 1) S.NN false [] (12 ∷ [])) ≡ 5
   -- 8 before 9
-  pub secondBaseline : refusalOfAdding (opened ∷ deathDated (ymd 2020 3 1) ∷ []) (printedBaseline (ymd 2020 2 12)) ≡ 8
+  pub secondBaseline : refusalOfAdding (printedOpening ∷ deathDated (ymd 2020 3 1) ∷ []) (printedBaseline (ymd 2020 2 12)) ≡ 8
   -- 9 before 10
-  pub afterDeath : refusalOfAdding (opened ∷ deathDated (ymd 2020 3 1) ∷ []) (therapyDated (ymd 2020 2 1)) ≡ 9
+  pub afterDeath : refusalOfAdding (printedOpening ∷ deathDated (ymd 2020 3 1) ∷ []) (therapyDated (ymd 2020 2 1)) ≡ 9
   -- 10: before randomisation, on day 1, and on the latest day
-  pub dayBefore : refusalOfAdding (opened ∷ []) (therapyDated (ymd 2019 12 31)) ≡ 10
-  pub therapyOnDay1 : refusalOfAdding (opened ∷ []) (therapyDated (ymd 2020 1 1)) ≡ 0
-  pub visitOnDay1 : refusalOfAdding (opened ∷ []) (visitDated (ymd 2020 1 1) S.NN false [] []) ≡ 10
-  pub therapyOnLatest : refusalOfAdding (opened ∷ visited ∷ []) (therapyDated (ymd 2020 2 12)) ≡ 0
-  pub deathOnLatest : refusalOfAdding (opened ∷ visited ∷ []) (deathDated (ymd 2020 2 12)) ≡ 0
-  pub deathBeforeLatest : refusalOfAdding (opened ∷ visited ∷ []) (deathDated (ymd 2020 2 11)) ≡ 10
-  pub visitOnLatest : refusalOfAdding (opened ∷ visited ∷ []) visited ≡ 10
+  pub dayBefore : refusalOfAdding (printedOpening ∷ []) (therapyDated (ymd 2019 12 31)) ≡ 10
+  pub therapyOnDay1 : refusalOfAdding (printedOpening ∷ []) (therapyDated (ymd 2020 1 1)) ≡ 0
+  pub visitOnDay1 : refusalOfAdding (printedOpening ∷ []) (visitDated (ymd 2020 1 1) S.NN false [] []) ≡ 10
+  pub therapyOnLatest : refusalOfAdding (printedOpening ∷ printedVisit43 ∷ []) (therapyDated (ymd 2020 2 12)) ≡ 0
+  pub deathOnLatest : refusalOfAdding (printedOpening ∷ printedVisit43 ∷ []) (deathDated (ymd 2020 2 12)) ≡ 0
+  pub deathBeforeLatest : refusalOfAdding (printedOpening ∷ printedVisit43 ∷ []) (deathDated (ymd 2020 2 11)) ≡ 10
+  pub visitOnLatest : refusalOfAdding (printedOpening ∷ printedVisit43 ∷ []) printedVisit43 ≡ 10
   -- 10 before 11
-  pub misfitOnLatest : refusalOfAdding (opened ∷ visited ∷ []) (visitDated (ymd 2020 2 12) S.NA false [] []) ≡ 10
-  pub statusNA : refusalOfAdding (opened ∷ []) (visitDated (ymd 2020 2 12) S.NA false [] []) ≡ 11
-  pub beyondCount : refusalOfAdding (opened ∷ []) (visitDated (ymd 2020 2 12) S.NN false (false ∷ false ∷ true ∷ []) []) ≡ 11
-  pub fitting : refusalOfAdding (opened ∷ []) visited ≡ 0
+  pub misfitOnLatest : refusalOfAdding (printedOpening ∷ printedVisit43 ∷ []) (visitDated (ymd 2020 2 12) S.NA false [] []) ≡ 10
+  pub statusNA : refusalOfAdding (printedOpening ∷ []) (visitDated (ymd 2020 2 12) S.NA false [] []) ≡ 11
+  pub beyondCount : refusalOfAdding (printedOpening ∷ []) (visitDated (ymd 2020 2 12) S.NN false (false ∷ false ∷ true ∷ []) []) ≡ 11
+  pub fitting : refusalOfAdding (printedOpening ∷ []) printedVisit43 ≡ 0
   -- neither a therapy nor a progression, here by a new lesion, ends adding
-  pub afterTherapy : refusalOfAdding (opened ∷ therapyDated (ymd 2020 2 1) ∷ []) visited ≡ 0
-  pub afterProgression : refusalOfAdding (opened ∷ visitDated (ymd 2020 2 1) S.NN true [] [] ∷ []) visited ≡ 0
+  pub afterTherapy : refusalOfAdding (printedOpening ∷ therapyDated (ymd 2020 2 1) ∷ []) printedVisit43 ≡ 0
+  pub afterProgression : refusalOfAdding (printedOpening ∷ visitDated (ymd 2020 2 1) S.NN true [] [] ∷ []) printedVisit43 ≡ 0
   -- a refused addition and a reading leave the accepted records as they are
-  pub calls : accepted opened (add (therapyDated (ymd 2019 12 31)) ∷ read ∷ add visited ∷ add visited ∷ []) ≡ opened ∷ visited ∷ []
+  pub calls : accepted printedOpening (add (therapyDated (ymd 2019 12 31)) ∷ read ∷ add printedVisit43 ∷ add printedVisit43 ∷ []) ≡ printedOpening ∷ printedVisit43 ∷ []
 
 -- the second and the third visit of the printed example
-abbrev pub visitedAgain : Record
-visitedAgain = visitDated (ymd 2020 3 25) S.NN false (true ∷ true ∷ []) (0 ∷ 9 ∷ [])
+abbrev pub printedVisit85 : Record
+printedVisit85 = visitDated (ymd 2020 3 25) S.NN false (true ∷ true ∷ []) (0 ∷ 9 ∷ [])
 
-abbrev pub visitedThird : Record
-visitedThird = visitDated (ymd 2020 5 6) S.NN false (true ∷ true ∷ []) (0 ∷ 15 ∷ [])
+abbrev pub printedVisit127 : Record
+printedVisit127 = visitDated (ymd 2020 5 6) S.NN false (true ∷ true ∷ []) (0 ∷ 15 ∷ [])
 
 -- V 43 PR NN PR -40.0
 abbrev pub printedLine : VisitLine
@@ -132,18 +132,18 @@ printedLine = record { day = 43; target = PR; nontarget = NN; overall = PR; chan
 
 -- where a visit is added, its study day, target, non-target and overall answer and change; for other records, and beside a refusal, nothing
 pub record RepliedOfVisits : Type 0 where
-  pub visit : responsesOfAdding (opened ∷ []) visited ≡ printedLine ∷ []
+  pub visit : responsesOfAdding (printedOpening ∷ []) printedVisit43 ≡ printedLine ∷ []
   -- behind a therapy, and behind a progression, here by a new lesion, too
-  pub afterTherapy : responsesOfAdding (opened ∷ therapyDated (ymd 2020 2 1) ∷ []) visited ≡ printedLine ∷ []
-  pub afterProgression : responsesOfAdding (opened ∷ visitDated (ymd 2020 2 1) S.NN true [] [] ∷ []) visited ≡ printedLine ∷ []
+  pub afterTherapy : responsesOfAdding (printedOpening ∷ therapyDated (ymd 2020 2 1) ∷ []) printedVisit43 ≡ printedLine ∷ []
+  pub afterProgression : responsesOfAdding (printedOpening ∷ visitDated (ymd 2020 2 1) S.NN true [] [] ∷ []) printedVisit43 ≡ printedLine ∷ []
   -- those of the visit that is added, and not of the one before
-  pub second : responsesOfAdding (opened ∷ visited ∷ []) visitedAgain
+  pub second : responsesOfAdding (printedOpening ∷ printedVisit43 ∷ []) printedVisit85
       ≡ record { day = 85; target = CR; nontarget = NN; overall = PR; change = signed true 850 } ∷ []
   -- V 127 PD NN PD -75.0, by the nadir that the earlier visits leave
-  pub third : responsesOfAdding (opened ∷ visited ∷ visitedAgain ∷ []) visitedThird
+  pub third : responsesOfAdding (printedOpening ∷ printedVisit43 ∷ printedVisit85 ∷ []) printedVisit127
       ≡ record { day = 127; target = PD; nontarget = NN; overall = PD; change = signed true 750 } ∷ []
-  pub therapy : responsesOfAdding (opened ∷ []) (therapyDated (ymd 2020 2 12)) ≡ []
-  pub death : responsesOfAdding (opened ∷ []) (deathDated (ymd 2020 2 12)) ≡ []
+  pub therapy : responsesOfAdding (printedOpening ∷ []) (therapyDated (ymd 2020 2 12)) ≡ []
+  pub death : responsesOfAdding (printedOpening ∷ []) (deathDated (ymd 2020 2 12)) ≡ []
   -- 10, and 11
-  pub again : responsesOfAdding (opened ∷ visited ∷ []) visited ≡ []
-  pub misfit : responsesOfAdding (opened ∷ []) (visitDated (ymd 2020 2 12) S.NA false [] []) ≡ []
+  pub again : responsesOfAdding (printedOpening ∷ printedVisit43 ∷ []) printedVisit43 ≡ []
+  pub misfit : responsesOfAdding (printedOpening ∷ []) (visitDated (ymd 2020 2 12) S.NA false [] []) ≡ []

@@ -8,7 +8,7 @@ use Rattle.laws.specs.Choice.{either, pick}
 use Rattle.response_rules.specs.Words.{Word, overallWord}
 use Rattle.response_rules.specs.OverallAnswer.{isPD}
 use Rattle.response_rules.specs.Inputs.{Visit}
-use Rattle.response_rules.specs.VisitAnswers.{visitOverall}
+use Rattle.response_rules.specs.VisitAnswers.{overallAnswerAfter}
 use Rattle.outcome_rules.specs.declared.JudgedVisit.{JudgedVisit}
 use Rattle.outcome_rules.specs.Values.{Day, none, on, isRecorded, _orElse_}
 use Rattle.outcome_rules.specs.StudyRecords.{Baseline, baseline, visit, therapy, death, disease}
@@ -32,7 +32,7 @@ judgedValues j = record { day = j .day .0; answer = overallWord (j .answer) }
 
 -- what is recorded behind a baseline
 pub data Occurrence : Type 0 where
-  visited : Judged → Occurrence
+  judgedVisit : Judged → Occurrence
   therapyOn : ℕ → Occurrence
   deathOn : ℕ → Occurrence
 
@@ -40,45 +40,45 @@ abbrev pub Course : Type 0
 Course = List Occurrence
 
 -- the overall answer at a visit, after the earlier ones
-unfoldable pub answerAt : Baseline → Past → Visit → Word
-answerAt b p v = visitOverall (disease b) (visitsOf p) v
+unfoldable pub overallAt : Baseline → Past → Visit → Word
+overallAt b p v = overallAnswerAfter (disease b) (visitsOf p) v
 
 abbrev pub judge : Baseline → Past → ℕ → Visit → Judged
-judge b p d v = record { day = d; answer = answerAt b p v }
+judge b p d v = record { day = d; answer = overallAt b p v }
 
 -- each visit is judged once, here, after those before it
 abbrev pub course : Baseline → Past → Course
 course b [] = []
 course b (baseline x ∷ p) = course b p
-course b (visit d v ∷ p) = visited (judge b p d v) ∷ course b p
+course b (visit d v ∷ p) = judgedVisit (judge b p d v) ∷ course b p
 course b (therapy d ∷ p) = therapyOn d ∷ course b p
 course b (death d ∷ p) = deathOn d ∷ course b p
 
 -- the latest day, the death, therapy and the visits in a course; the first two are those of its records (`ListLaws`)
 abbrev pub dayIn : Occurrence → ℕ
-dayIn (visited j) = j .day
+dayIn (judgedVisit j) = j .day
 dayIn (therapyOn d) = d
 dayIn (deathOn d) = d
 
-abbrev pub latestIn : Course → ℕ
-latestIn [] = 1
-latestIn (e ∷ c) = max (dayIn e) (latestIn c)
+abbrev pub latestDayIn : Course → ℕ
+latestDayIn [] = 1
+latestDayIn (e ∷ c) = max (dayIn e) (latestDayIn c)
 
-abbrev pub deathIn : Course → Day
-deathIn [] = none
-deathIn (visited j ∷ c) = deathIn c
-deathIn (therapyOn d ∷ c) = deathIn c
-deathIn (deathOn d ∷ c) = deathIn c orElse on d
+abbrev pub deathDayIn : Course → Day
+deathDayIn [] = none
+deathDayIn (judgedVisit j ∷ c) = deathDayIn c
+deathDayIn (therapyOn d ∷ c) = deathDayIn c
+deathDayIn (deathOn d ∷ c) = deathDayIn c orElse on d
 
-abbrev pub treated : Course → Bool
-treated [] = false
-treated (visited j ∷ c) = treated c
-treated (therapyOn d ∷ c) = true
-treated (deathOn d ∷ c) = treated c
+abbrev pub therapyRecorded : Course → Bool
+therapyRecorded [] = false
+therapyRecorded (judgedVisit j ∷ c) = therapyRecorded c
+therapyRecorded (therapyOn d ∷ c) = true
+therapyRecorded (deathOn d ∷ c) = therapyRecorded c
 
 abbrev pub visitsIn : Course → List Judged
 visitsIn [] = []
-visitsIn (visited j ∷ c) = j ∷ visitsIn c
+visitsIn (judgedVisit j ∷ c) = j ∷ visitsIn c
 visitsIn (therapyOn d ∷ c) = visitsIn c
 visitsIn (deathOn d ∷ c) = visitsIn c
 
@@ -92,11 +92,11 @@ progression c = firstPD (visitsIn c)
 
 -- no further visit counts: a therapy or a progression is recorded
 abbrev pub countingClosed : Course → Bool
-countingClosed c = either (treated c) (isRecorded (progression c))
+countingClosed c = either (therapyRecorded c) (isRecorded (progression c))
 
 -- counting visits, a term of document 01: those recorded before the first therapy, up to and with progression
-abbrev pub counting : Course → List Judged
-counting [] = []
-counting (visited j ∷ c) = pick (countingClosed c) (counting c) (j ∷ counting c)
-counting (therapyOn d ∷ c) = counting c
-counting (deathOn d ∷ c) = counting c
+abbrev pub countingVisits : Course → List Judged
+countingVisits [] = []
+countingVisits (judgedVisit j ∷ c) = pick (countingClosed c) (countingVisits c) (j ∷ countingVisits c)
+countingVisits (therapyOn d ∷ c) = countingVisits c
+countingVisits (deathOn d ∷ c) = countingVisits c

@@ -5,7 +5,7 @@ use mathlib.Core.List.{List, [], _∷_}
 use Rattle.laws.specs.Choice.{pick}
 use Rattle.response_rules.specs.Words.{Word}
 use Rattle.outcome_rules.specs.Values.{Day, none, on, _orElse_, Pfs, Duration, noDuration, forDays}
-use Rattle.outcome_rules.specs.Course.{Judged, Course, counting}
+use Rattle.outcome_rules.specs.Course.{Judged, Course, countingVisits}
 use Rattle.outcome_rules.specs.Pfs.{pfs}
 use Rattle.outcome_rules.specs.BestResponse.{isResponse, best}
 
@@ -20,4 +20,4 @@ durationOf best none pfs = noDuration
 durationOf best (on first) pfs = pick (isResponse best) (forDays (pfs .status) (pfs .day - first + 1)) noDuration
 
 unfoldable pub duration : Course → Duration
-duration c = durationOf (best c) (firstResponse (counting c)) (pfs c)
+duration c = durationOf (best c) (firstResponse (countingVisits c)) (pfs c)

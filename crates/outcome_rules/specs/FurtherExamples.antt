@@ -10,12 +10,12 @@ use Rattle.records.specs.Examples.{filled}
 use Rattle.response_rules.specs.Words.{Word, CR, PR, SD, PD, NE, NA, NN}
 use Rattle.response_rules.specs.declared.Overall.the-variants as O
 use Rattle.response_rules.specs.Change.{signed}
-use Rattle.outcome_rules.specs.Values.{none, on, EVENT, CENSORED, event, censored, noDuration, forDays, dayValue, wordOfStatus, pfsValues, bestWord, durationValues}
+use Rattle.outcome_rules.specs.Values.{none, on, EVENT, CENSORED, event, censored, noDuration, forDays, dayValue, pfsStatusWord, pfsValues, bestWord, durationValues}
 use Rattle.outcome_rules.specs.StudyRecords.{Baseline, StudyRecord, baseline, visit, therapy, death, dayOf, fieldsPass, allPass}
 use Rattle.outcome_rules.specs.LawfulLists.{Past, latestDay}
-use Rattle.outcome_rules.specs.Course.{Judged, judgedValues, visited, therapyOn, deathOn, Course, course, latestIn, treated}
+use Rattle.outcome_rules.specs.Course.{Judged, judgedValues, judgedVisit, therapyOn, deathOn, Course, course, latestDayIn, therapyRecorded}
 use Rattle.outcome_rules.specs.VisitLines.{linesInOrder}
-use Rattle.outcome_rules.specs.StarredExamples.{withTargets, oneTarget, withNode, noTargets, missing, visitOn, measuring, unmeasured, Said, is, pfsIs, bestIs, durationIs, pfsOfList, bestOfList, durationOfList, pfsSettledOfList, bestSettledOfList, durationSettledOfList, Example, example}
+use Rattle.outcome_rules.specs.StarredExamples.{withTargets, oneTarget, withNode, noTargets, missing, visitOn, measuring, unmeasured, ExampleAnswer, is, pfsIs, bestIs, durationIs, pfsOfList, bestOfList, durationOfList, pfsSettledOfList, bestSettledOfList, durationSettledOfList, Example, example}
 use Rattle.outcome_rules.specs.declared.MaybeDay.the-variants as M
 use Rattle.outcome_rules.specs.declared.PfsStatus.the-variants as E
 use Rattle.outcome_rules.specs.declared.BestResponse.the-variants as B
@@ -24,7 +24,7 @@ use Rattle.outcome_rules.specs.declared.DurationAnswer.the-variants as D
 -- the words and values of the declared cases
 pub record WordsOfCases : Type 0 where
   pub days : map dayValue (M.Absent ∷ M.On (record { 0 = 43 }) ∷ []) ≡ none ∷ on 43 ∷ []
-  pub statuses : map wordOfStatus (E.Event ∷ E.Censored ∷ []) ≡ EVENT ∷ CENSORED ∷ []
+  pub statuses : map pfsStatusWord (E.Event ∷ E.Censored ∷ []) ≡ EVENT ∷ CENSORED ∷ []
   pub pfs : pfsValues (record { status = E.Censored; day = record { 0 = 43 } }) ≡ censored 43
   pub best : map bestWord (B.CR ∷ B.PR ∷ B.SD ∷ B.PD ∷ B.NE ∷ []) ≡ CR ∷ PR ∷ SD ∷ PD ∷ NE ∷ []
   pub judged : judgedValues (record { day = record { 0 = 43 }; answer = O.PR }) ≡ record { day = 43; answer = PR }
@@ -40,18 +40,18 @@ judgedOn d answer = record { day = d; answer = answer }
 pub record CoursesOfRecords : Type 0 where
   -- each visit with its day and overall answer, each therapy and death with its day, newest first
   pub eachKind : courseOf (measuring 43 60 ∷ therapy 50 ∷ unmeasured 85 ∷ death 100 ∷ [])
-      ≡ deathOn 100 ∷ visited (judgedOn 85 NE) ∷ therapyOn 50 ∷ visited (judgedOn 43 PR) ∷ []
+      ≡ deathOn 100 ∷ judgedVisit (judgedOn 85 NE) ∷ therapyOn 50 ∷ judgedVisit (judgedOn 43 PR) ∷ []
   -- randomisation is day 1; the latest day starts there, and a visit, a therapy and a death move it
   pub randomisation : dayOf (baseline oneTarget) ≡ 1
   pub latest : map (λ (rs : List StudyRecord). latestDay (reverse rs))
       ([] ∷ (measuring 43 60 ∷ []) ∷ (measuring 43 60 ∷ therapy 50 ∷ []) ∷ (measuring 43 60 ∷ death 50 ∷ []) ∷ [])
       ≡ 1 ∷ 43 ∷ 50 ∷ 50 ∷ []
-  pub latestOfCourse : map (λ (rs : List StudyRecord). latestIn (courseOf rs))
+  pub latestOfCourse : map (λ (rs : List StudyRecord). latestDayIn (courseOf rs))
       ([] ∷ (measuring 43 60 ∷ []) ∷ (measuring 43 60 ∷ therapy 50 ∷ []) ∷ (measuring 43 60 ∷ death 50 ∷ []) ∷ [])
       ≡ 1 ∷ 43 ∷ 50 ∷ 50 ∷ []
   -- a therapy stays recorded behind a visit and a death, and neither is one
-  pub afterTherapy : treated (courseOf (therapy 50 ∷ measuring 85 60 ∷ death 100 ∷ [])) ≡ true
-  pub withoutTherapy : treated (courseOf (measuring 85 60 ∷ death 100 ∷ [])) ≡ false
+  pub afterTherapy : therapyRecorded (courseOf (therapy 50 ∷ measuring 85 60 ∷ death 100 ∷ [])) ≡ true
+  pub withoutTherapy : therapyRecorded (courseOf (measuring 85 60 ∷ death 100 ∷ [])) ≡ false
 
 -- the visits of the printed example
 abbrev pub visit43 : StudyRecord
@@ -63,7 +63,7 @@ visit85 = visitOn 85 S.NN false (0 ∷ 9 ∷ [])
 abbrev pub visit127 : StudyRecord
 visit127 = visitOn 127 S.NN false (0 ∷ 15 ∷ [])
 
-abbrev pub printed : (Baseline → Past → Said) → Said → Example
+abbrev pub printed : (Baseline → Past → ExampleAnswer) → ExampleAnswer → Example
 printed = example withNode (visit43 ∷ visit85 ∷ visit127 ∷ []) (PR ∷ PR ∷ PD ∷ [])
 
 -- its V lines in the order recorded; a therapy and a death have none

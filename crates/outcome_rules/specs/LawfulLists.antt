@@ -46,16 +46,16 @@ unfoldable pub fits : Baseline → Visit → Bool
 fits b v = fitsBy (b .count) (b .nontarget) (v .status) (v .measured)
 
 -- no other baseline; each therapy or death on or after the latest day so far; each visit later than it, and fitting the baseline
-abbrev pub placed : Baseline → ℕ → StudyRecord → Bool
-placed b latest (baseline x) = false
-placed b latest (visit d v) = both (ltb latest d) (fits b v)
-placed b latest (therapy d) = leb latest d
-placed b latest (death d) = leb latest d
+abbrev pub lawfulNext : Baseline → ℕ → StudyRecord → Bool
+lawfulNext b latest (baseline x) = false
+lawfulNext b latest (visit d v) = both (ltb latest d) (fits b v)
+lawfulNext b latest (therapy d) = leb latest d
+lawfulNext b latest (death d) = leb latest d
 
 -- nothing after a death
 abbrev pub lawfulBehind : Baseline → Past → Bool
 lawfulBehind b [] = true
-lawfulBehind b (r ∷ p) = both (lawfulBehind b p) (both (not (died p)) (placed b (latestDay p) r))
+lawfulBehind b (r ∷ p) = both (lawfulBehind b p) (both (not (died p)) (lawfulNext b (latestDay p) r))
 
 -- lawful, a term of document 01: a list in the order recorded that opens with a baseline
 abbrev pub lawful : List StudyRecord → Bool

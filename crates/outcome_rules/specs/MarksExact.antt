@@ -11,14 +11,14 @@ use Rattle.outcome_rules.specs.Settled.{outcome}
 
 -- A part of the outcome is equal behind every lawful run of further records whose fields pass 4 and 5, the empty run among them; newest first. Equal
 -- values of PFS have the same status and day, and equal durations are none both times or have the same days and status.
-abbrev pub Lasts : {A : Type 0} → (Outcome → A) → Baseline → Past → Type 0
-Lasts part b p = (run : Past) → allPass run ≡ true → lawfulBehind b (run ++ p) ≡ true → part (outcome b (run ++ p)) ≡ part (outcome b p)
+abbrev pub NoRunChanges : {A : Type 0} → (Outcome → A) → Baseline → Past → Type 0
+NoRunChanges part b p = (run : Past) → allPass run ≡ true → lawfulBehind b (run ++ p) ≡ true → part (outcome b (run ++ p)) ≡ part (outcome b p)
 
 -- each mark is true exactly when its part lasts
 pub record MarksExact (b : Baseline) (p : Past) : Type 0 where
-  pub pfs : (outcome b p .pfsSettled ≡ true) ↔ Lasts (λ (o : Outcome). o .pfs) b p
-  pub best : (outcome b p .bestSettled ≡ true) ↔ Lasts (λ (o : Outcome). o .best) b p
-  pub duration : (outcome b p .durationSettled ≡ true) ↔ Lasts (λ (o : Outcome). o .duration) b p
+  pub pfs : (outcome b p .pfsSettled ≡ true) ↔ NoRunChanges (λ (o : Outcome). o .pfs) b p
+  pub best : (outcome b p .bestSettled ≡ true) ↔ NoRunChanges (λ (o : Outcome). o .best) b p
+  pub duration : (outcome b p .durationSettled ≡ true) ↔ NoRunChanges (λ (o : Outcome). o .duration) b p
 
 -- of every lawful list whose baseline passes 4 and 5
 pub record EveryMarkExact : Type 0 where
@@ -28,15 +28,15 @@ pub record EveryMarkExact : Type 0 where
 abbrev pub outcomeInOrder : Baseline → List StudyRecord → Outcome
 outcomeInOrder b rs = outcome b (reverse rs)
 
-abbrev pub LastsInOrder : {A : Type 0} → (Outcome → A) → Baseline → List StudyRecord → Type 0
-LastsInOrder part b rs =
+abbrev pub NoRunChangesInOrder : {A : Type 0} → (Outcome → A) → Baseline → List StudyRecord → Type 0
+NoRunChangesInOrder part b rs =
     (run : List StudyRecord) → allPass run ≡ true → lawful (baseline b ∷ rs ++ run) ≡ true →
     part (outcomeInOrder b (rs ++ run)) ≡ part (outcomeInOrder b rs)
 
 pub record MarksExactInOrder (b : Baseline) (rs : List StudyRecord) : Type 0 where
-  pub pfs : (outcomeInOrder b rs .pfsSettled ≡ true) ↔ LastsInOrder (λ (o : Outcome). o .pfs) b rs
-  pub best : (outcomeInOrder b rs .bestSettled ≡ true) ↔ LastsInOrder (λ (o : Outcome). o .best) b rs
-  pub duration : (outcomeInOrder b rs .durationSettled ≡ true) ↔ LastsInOrder (λ (o : Outcome). o .duration) b rs
+  pub pfs : (outcomeInOrder b rs .pfsSettled ≡ true) ↔ NoRunChangesInOrder (λ (o : Outcome). o .pfs) b rs
+  pub best : (outcomeInOrder b rs .bestSettled ≡ true) ↔ NoRunChangesInOrder (λ (o : Outcome). o .best) b rs
+  pub duration : (outcomeInOrder b rs .durationSettled ≡ true) ↔ NoRunChangesInOrder (λ (o : Outcome). o .duration) b rs
 
 pub record EveryMarkExactInOrder : Type 0 where
   pub exact : (b : Baseline) (rs : List StudyRecord) → fieldsPass (baseline b) ≡ true → lawful (baseline b ∷ rs) ≡ true → MarksExactInOrder b rs

@@ -8,14 +8,14 @@ use Rattle.response_rules.specs.Words.{Word}
 use Rattle.outcome_rules.specs.Values.{isRecorded, Duration, exists, Outcome}
 use Rattle.outcome_rules.specs.StudyRecords.{Baseline}
 use Rattle.outcome_rules.specs.LawfulLists.{Past}
-use Rattle.outcome_rules.specs.Course.{Course, course, latestIn, deathIn, treated, progression}
-use Rattle.outcome_rules.specs.Pfs.{earlyDeath, pfs}
+use Rattle.outcome_rules.specs.Course.{Course, course, latestDayIn, deathDayIn, therapyRecorded, progression}
+use Rattle.outcome_rules.specs.Pfs.{earlyDeathLimit, pfs}
 use Rattle.outcome_rules.specs.BestResponse.{isCR, best}
 use Rattle.outcome_rules.specs.Duration.{duration}
 
 -- 93: from this day on no death is an early one
 unfoldable pub settledFrom : ℕ
-settledFrom = earlyDeath + 2
+settledFrom = earlyDeathLimit + 2
 
 -- baseline assessed, a progression or death is recorded; baseline missing, a death is recorded or the latest day is at least 93
 unfoldable pub pfsSettledBy : Bool → Bool → Bool → ℕ → Bool
@@ -31,10 +31,10 @@ unfoldable pub durationSettledBy : Duration → Bool → Bool → Bool
 durationSettledBy duration pfsSettled bestSettled = pick (exists duration) pfsSettled bestSettled
 
 unfoldable pub pfsSettled : Bool → Course → Bool
-pfsSettled assessed c = pfsSettledBy assessed (isRecorded (progression c)) (isRecorded (deathIn c)) (latestIn c)
+pfsSettled assessed c = pfsSettledBy assessed (isRecorded (progression c)) (isRecorded (deathDayIn c)) (latestDayIn c)
 
 unfoldable pub bestSettled : Bool → Course → Bool
-bestSettled assessed c = bestSettledBy (isRecorded (progression c)) (treated c) (isRecorded (deathIn c)) assessed (best c)
+bestSettled assessed c = bestSettledBy (isRecorded (progression c)) (therapyRecorded c) (isRecorded (deathDayIn c)) assessed (best c)
 
 unfoldable pub durationSettled : Bool → Course → Bool
 durationSettled assessed c = durationSettledBy (duration c) (pfsSettled assessed c) (bestSettled assessed c)

@@ -12,7 +12,7 @@ use Rattle.records.specs.declared.Status.the-variants as S
 use Rattle.records.specs.Examples.{fivePlaces}
 use Rattle.response_rules.specs.Words.{Word, CR, PR, SD, PD, NE}
 use Rattle.response_rules.specs.OverallAnswer.{isPD}
-use Rattle.response_rules.specs.VisitAnswers.{visitTarget}
+use Rattle.response_rules.specs.VisitAnswers.{targetAnswerAfter}
 use Rattle.response_rules.specs.Examples.{marked}
 use Rattle.outcome_rules.specs.Values.{Pfs, event, censored, Duration, noDuration}
 use Rattle.outcome_rules.specs.StudyRecords.{Baseline, StudyRecord, baseline, visit, therapy, death, disease, allPass}
@@ -60,46 +60,46 @@ abbrev pub unmeasured : ℕ → StudyRecord
 unmeasured d = visitOn d S.NA false []
 
 -- what an example says
-pub data Said : Type 0 where
-  target : Word → Said
-  is : Bool → Said
-  pfsIs : Pfs → Said
-  bestIs : Word → Said
-  durationIs : Duration → Said
+pub data ExampleAnswer : Type 0 where
+  target : Word → ExampleAnswer
+  is : Bool → ExampleAnswer
+  pfsIs : Pfs → ExampleAnswer
+  bestIs : Word → ExampleAnswer
+  durationIs : Duration → ExampleAnswer
 
 -- the target answer of the last visit; NE where there is no visit
 abbrev pub lastTarget : Baseline → Past → Word
 lastTarget b [] = NE
 lastTarget b (baseline x ∷ p) = lastTarget b p
-lastTarget b (visit d v ∷ p) = visitTarget (disease b) (visitsOf p) v
+lastTarget b (visit d v ∷ p) = targetAnswerAfter (disease b) (visitsOf p) v
 lastTarget b (therapy d ∷ p) = lastTarget b p
 lastTarget b (death d ∷ p) = lastTarget b p
 
-abbrev pub targetOf : Baseline → Past → Said
+abbrev pub targetOf : Baseline → Past → ExampleAnswer
 targetOf b p = target (lastTarget b p)
 
-abbrev pub targetPD : Baseline → Past → Said
+abbrev pub targetPD : Baseline → Past → ExampleAnswer
 targetPD b p = is (isPD (lastTarget b p))
 
-abbrev pub targetCR : Baseline → Past → Said
+abbrev pub targetCR : Baseline → Past → ExampleAnswer
 targetCR b p = is (isCR (lastTarget b p))
 
-abbrev pub pfsOfList : Baseline → Past → Said
+abbrev pub pfsOfList : Baseline → Past → ExampleAnswer
 pfsOfList b p = pfsIs (outcome b p .pfs)
 
-abbrev pub bestOfList : Baseline → Past → Said
+abbrev pub bestOfList : Baseline → Past → ExampleAnswer
 bestOfList b p = bestIs (outcome b p .best)
 
-abbrev pub durationOfList : Baseline → Past → Said
+abbrev pub durationOfList : Baseline → Past → ExampleAnswer
 durationOfList b p = durationIs (outcome b p .duration)
 
-abbrev pub pfsSettledOfList : Baseline → Past → Said
+abbrev pub pfsSettledOfList : Baseline → Past → ExampleAnswer
 pfsSettledOfList b p = is (outcome b p .pfsSettled)
 
-abbrev pub bestSettledOfList : Baseline → Past → Said
+abbrev pub bestSettledOfList : Baseline → Past → ExampleAnswer
 bestSettledOfList b p = is (outcome b p .bestSettled)
 
-abbrev pub durationSettledOfList : Baseline → Past → Said
+abbrev pub durationSettledOfList : Baseline → Past → ExampleAnswer
 durationSettledOfList b p = is (outcome b p .durationSettled)
 
 -- a baseline, the records behind it and the overall answers of its visits in the order recorded, what is asked, and the paper's answer
@@ -107,14 +107,14 @@ pub record Example : Type 0 where
   pub opening : Baseline
   pub behind : List StudyRecord
   pub visits : List Word
-  pub asked : Baseline → Past → Said
-  pub paper : Said
+  pub question : Baseline → Past → ExampleAnswer
+  pub paper : ExampleAnswer
 
-abbrev pub example : Baseline → List StudyRecord → List Word → (Baseline → Past → Said) → Said → Example
-example b rs ws f a = record { opening = b; behind = rs; visits = ws; asked = f; paper = a }
+abbrev pub example : Baseline → List StudyRecord → List Word → (Baseline → Past → ExampleAnswer) → ExampleAnswer → Example
+example b rs ws f a = record { opening = b; behind = rs; visits = ws; question = f; paper = a }
 
 -- 15: PR 43, therapy 50, PR 85, PD 127
-abbrev pub afterTherapy : (Baseline → Past → Said) → Said → Example
+abbrev pub afterTherapy : (Baseline → Past → ExampleAnswer) → ExampleAnswer → Example
 afterTherapy = example oneTarget (measuring 43 60 ∷ therapy 50 ∷ measuring 85 60 ∷ measuring 127 200 ∷ []) (PR ∷ PR ∷ PD ∷ [])
 
 unfoldable pub starred : List Example
@@ -167,11 +167,11 @@ lawfulAndPassing (e ∷ es) =
 abbrev pub overallAnswers : Example → List Word
 overallAnswers e = map (λ (j : Judged). j .answer) (reverse (visitsIn (course (e .opening) (reverse (e .behind)))))
 
-abbrev pub answered : Example → Said
-answered e = e .asked (e .opening) (reverse (e .behind))
+abbrev pub answerOf : Example → ExampleAnswer
+answerOf e = e .question (e .opening) (reverse (e .behind))
 
 -- every list is lawful, its visits have the overall answers said, and what is asked has the paper's answer
 pub record Hold (es : List Example) : Type 0 where
   pub lists : lawfulAndPassing es ≡ true
   pub visits : map overallAnswers es ≡ map (λ (e : Example). e .visits) es
-  pub answers : map answered es ≡ map (λ (e : Example). e .paper) es
+  pub answers : map answerOf es ≡ map (λ (e : Example). e .paper) es

@@ -70,12 +70,12 @@ abbrev pub dayValue : MaybeDay → Day
 dayValue M.Absent = none
 dayValue (M.On d) = on (d .0)
 
-abbrev pub wordOfStatus : PfsStatus → PfsWord
-wordOfStatus E.Event = EVENT
-wordOfStatus E.Censored = CENSORED
+abbrev pub pfsStatusWord : PfsStatus → PfsWord
+pfsStatusWord E.Event = EVENT
+pfsStatusWord E.Censored = CENSORED
 
 abbrev pub pfsValues : PfsResult → Pfs
-pfsValues r = record { status = wordOfStatus (r .status); day = r .day .0 }
+pfsValues r = record { status = pfsStatusWord (r .status); day = r .day .0 }
 
 abbrev pub bestWord : BestResponse → Word
 bestWord B.CR = CR
@@ -86,4 +86,4 @@ bestWord B.NE = NE
 
 abbrev pub durationValues : DurationAnswer → Duration
 durationValues D.Absent = noDuration
-durationValues (D.ForDays r) = forDays (wordOfStatus (r .status)) (r .days)
+durationValues (D.ForDays r) = forDays (pfsStatusWord (r .status)) (r .days)

@@ -5,10 +5,10 @@ use mathlib.Core.List.{List, [], _∷_, _++_, reverse}
 use Rattle.response_rules.specs.Words.{Word, statusWord}
 use Rattle.response_rules.specs.Inputs.{Visit}
 use Rattle.response_rules.specs.Change.{Tenths, changeOf}
-use Rattle.response_rules.specs.VisitAnswers.{visitTarget}
+use Rattle.response_rules.specs.VisitAnswers.{targetAnswerAfter}
 use Rattle.outcome_rules.specs.StudyRecords.{Baseline, StudyRecord, baseline, visit, therapy, death, disease, fromBaseline}
 use Rattle.outcome_rules.specs.LawfulLists.{Past}
-use Rattle.outcome_rules.specs.Course.{visitsOf, answerAt}
+use Rattle.outcome_rules.specs.Course.{visitsOf, overallAt}
 
 -- study day, target, non-target, overall, change
 pub record VisitLine : Type 0 where
@@ -19,27 +19,27 @@ pub record VisitLine : Type 0 where
   pub change : Tenths
 
 -- of a visit, after the earlier ones
-unfoldable pub lineOf : Baseline → Past → ℕ → Visit → VisitLine
-lineOf b p d v =
+unfoldable pub lineOfVisit : Baseline → Past → ℕ → Visit → VisitLine
+lineOfVisit b p d v =
     record {
       day = d;
-      target = visitTarget (disease b) (visitsOf p) v;
+      target = targetAnswerAfter (disease b) (visitsOf p) v;
       nontarget = statusWord (v .status);
-      overall = answerAt b p v;
+      overall = overallAt b p v;
       change = changeOf (disease b) v;
     }
 
 -- of one record after those before it: therapy and death print no line of their own
-abbrev pub linesOf : Baseline → Past → StudyRecord → List VisitLine
-linesOf b p (baseline x) = []
-linesOf b p (visit d v) = lineOf b p d v ∷ []
-linesOf b p (therapy d) = []
-linesOf b p (death d) = []
+abbrev pub linesOfRecord : Baseline → Past → StudyRecord → List VisitLine
+linesOfRecord b p (baseline x) = []
+linesOfRecord b p (visit d v) = lineOfVisit b p d v ∷ []
+linesOfRecord b p (therapy d) = []
+linesOfRecord b p (death d) = []
 
 -- of the records behind a baseline; the lines stand in the order recorded
 abbrev pub visitLines : Baseline → Past → List VisitLine
 visitLines b [] = []
-visitLines b (r ∷ p) = visitLines b p ++ linesOf b p r
+visitLines b (r ∷ p) = visitLines b p ++ linesOfRecord b p r
 
 -- the lines of the visits of accepted records in the order recorded, baseline first
 abbrev pub linesInOrder : List StudyRecord → List VisitLine

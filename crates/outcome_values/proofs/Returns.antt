@@ -12,8 +12,8 @@ use Rattle.outcome_rules.specs.declared.MaybeDay.the-variants as M
 use Rattle.outcome_rules.specs.declared.PfsStatus.the-variants as E
 use Rattle.outcome_rules.specs.declared.PfsResult.{PfsResult}
 use Rattle.outcome_rules.specs.declared.BestResponse.{BestResponse}
-use Rattle.outcome_rules.specs.Values.{none, on, orDay1, forDays, dayValue, wordOfStatus, pfsValues, bestWord}
-use Rattle.outcome_rules.specs.Pfs.{gapLimit, twoMissed, earlyDeath, eventUnlessMissed, pfsOf}
+use Rattle.outcome_rules.specs.Values.{none, on, orDay1, forDays, dayValue, pfsStatusWord, pfsValues, bestWord}
+use Rattle.outcome_rules.specs.Pfs.{gapLimit, twoVisitsMissed, earlyDeathLimit, eventUnlessMissed, pfsOf}
 use Rattle.outcome_rules.specs.BestResponse.{isResponse}
 use Rattle.outcome_rules.specs.Duration.{durationOf}
 
@@ -34,10 +34,10 @@ pub last-band : (v : ℕ) → 162 ≤ v → 126 ≡ gapLimit v
 unfolding gapLimit
 last-band v l = rw (lt-leb v 1 (omega arith), lt-leb v 119 (omega arith), lt-leb v 161 l)
 
-pub missed-by : (d v limit gap : ℕ) → limit ≡ gapLimit v → gap ≡ d - v → ltb limit gap ≡ twoMissed d v
+pub missed-by : (d v limit gap : ℕ) → limit ≡ gapLimit v → gap ≡ d - v → ltb limit gap ≡ twoVisitsMissed d v
 missed-by d v limit gap e f = rw (e, f)
 
-module _ (d v : StudyDay) (e : MaybeDay) (x : Bool) (t : x ≡ twoMissed (d .0) (v .0)) where
+module _ (d v : StudyDay) (e : MaybeDay) (x : Bool) (t : x ≡ twoVisitsMissed (d .0) (v .0)) where
   pub missed : (r : StudyDay) → x ≡ true → r .0 ≡ orDay1 (dayValue e) →
       pfsValues (record { status = E.Censored; day = r }) ≡ eventUnlessMissed (d .0) (v .0) (dayValue e)
   missed r h q = rw (← t, h, q)
@@ -52,11 +52,11 @@ module _ (d v : StudyDay) (e : MaybeDay) where
   with-evaluable r x q h = h ∙ rw q
 
   module _ (n : ℕ) (q : e ≡ M.Absent) (f : n ≡ d .0 - 1) where
-    pub early : n ≤ earlyDeath → pfsValues (record { status = E.Event; day = d }) ≡ pfsOf none (on (d .0)) (v .0) (dayValue e)
-    early h = rw (q, ← f, le-leb n earlyDeath h)
+    pub early : n ≤ earlyDeathLimit → pfsValues (record { status = E.Event; day = d }) ≡ pfsOf none (on (d .0)) (v .0) (dayValue e)
+    early h = rw (q, ← f, le-leb n earlyDeathLimit h)
 
-    pub not-early : earlyDeath < n → pfsValues (record { status = E.Censored; day = record { 0 = 1 } }) ≡ pfsOf none (on (d .0)) (v .0) (dayValue e)
-    not-early h = rw (q, ← f, lt-leb n earlyDeath h)
+    pub not-early : earlyDeathLimit < n → pfsValues (record { status = E.Censored; day = record { 0 = 1 } }) ≡ pfsOf none (on (d .0)) (v .0) (dayValue e)
+    not-early h = rw (q, ← f, lt-leb n earlyDeathLimit h)
 
 -- by progression, by death, or by neither
 module _ (g t : MaybeDay) (v : StudyDay) (e : MaybeDay) (r : PfsResult) where
@@ -75,5 +75,5 @@ by-neither g t v e day q p h = rw (q, p, ← h)
 
 pub response-days : (w : BestResponse) (f : MaybeDay) (p : PfsResult) (x : Bool) (start : StudyDay) (n : ℕ) → f ≡ M.On start →
     x ≡ isResponse (bestWord w) → x ≡ true → n ≡ p .day .0 - start .0 →
-    forDays (wordOfStatus (p .status)) (n + 1) ≡ durationOf (bestWord w) (dayValue f) (pfsValues p)
+    forDays (pfsStatusWord (p .status)) (n + 1) ≡ durationOf (bestWord w) (dayValue f) (pfsValues p)
 response-days w f p x start n q r h m = rw (q, ← r, h, ← m)

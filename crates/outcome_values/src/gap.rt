@@ -2,7 +2,7 @@
 use super::days::days_between;
 use dates::StudyDay;
 ghost use mathlib.Core.Path.{_≡_};
-ghost use Rattle.outcome_rules.specs.Pfs.{gapLimit, twoMissed};
+ghost use Rattle.outcome_rules.specs.Pfs.{gapLimit, twoVisitsMissed};
 
 // The limit in days, by the previous visit's day; there is no day 0.
 fn gap_limit(previous: StudyDay) -> u32
@@ -17,8 +17,8 @@ fn gap_limit(previous: StudyDay) -> u32
     }
 }
 
-pub(crate) fn two_missed(day: StudyDay, previous: StudyDay) -> bool
-    ensures { λ r. ⌜ r ≡ twoMissed (day .0) (previous .0) ⌝ }
+pub(crate) fn two_visits_missed(day: StudyDay, previous: StudyDay) -> bool
+    ensures { λ r. ⌜ r ≡ twoVisitsMissed (day .0) (previous .0) ⌝ }
 {
     gap_limit(previous) < days_between(previous, day)
 }

@@ -11,4 +11,4 @@ pub use days::is_recorded;
 pub use pfs::pfs_of;
 
 // A death without an evaluable visit is an event up to this many days after day 1.
-pub const EARLY_DEATH: u32 = 91;
+pub const EARLY_DEATH_LIMIT: u32 = 91;

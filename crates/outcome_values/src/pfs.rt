@@ -1,8 +1,8 @@
 // Progression-free survival.
-use super::EARLY_DEATH;
+use super::EARLY_DEATH_LIMIT;
 use super::days::days_between;
 use super::days::or_day_1;
-use super::gap::two_missed;
+use super::gap::two_visits_missed;
 use dates::StudyDay;
 use outcome_rules::MaybeDay;
 use outcome_rules::PfsResult;
@@ -14,7 +14,7 @@ ghost use Rattle.outcome_rules.specs.Pfs.{eventUnlessMissed, pfsOf};
 fn event_unless_missed(day: StudyDay, previous: StudyDay, evaluable: MaybeDay) -> PfsResult
     ensures { λ r. ⌜ pfsValues r ≡ eventUnlessMissed (day .0) (previous .0) (dayValue evaluable) ⌝ }
 {
-    if two_missed(day, previous) {
+    if two_visits_missed(day, previous) {
         return PfsResult {
             status: PfsStatus::Censored,
             day: or_day_1(evaluable),
@@ -32,7 +32,7 @@ fn pfs_of_death(day: StudyDay, previous: StudyDay, evaluable: MaybeDay) -> PfsRe
     match evaluable {
         MaybeDay::On(_) => event_unless_missed(day, previous, evaluable),
         MaybeDay::Absent => {
-            if days_between(StudyDay(1), day) <= EARLY_DEATH {
+            if days_between(StudyDay(1), day) <= EARLY_DEATH_LIMIT {
                 return PfsResult {
                     status: PfsStatus::Event,
                     day: day,

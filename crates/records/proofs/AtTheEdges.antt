@@ -2,11 +2,11 @@
 -- Assumes nothing.
 use mathlib.Core.Path.{refl}
 use Rattle.dates.specs.Calendar.{leapYear, daysInMonth, dateExists}
-use Rattle.records.specs.Refusals.{wrongSize, largeMeasured, setBeyond, sizedUnmeasured, withoutDisease, outsideLimits, notZero, refusalsOfRead}
+use Rattle.records.specs.Refusals.{sizeOutsideLimits, measuredOutsideLimits, notZeroBeyondCount, notZeroUnmeasured, withoutDisease, outsideLimits, notZero, refusalsOfRead}
 use Rattle.records.specs.Examples.{OwnRefusals, NumbersOfCases}
 
 pub own-refusals : OwnRefusals
-unfolding leapYear daysInMonth dateExists wrongSize largeMeasured setBeyond sizedUnmeasured withoutDisease outsideLimits notZero refusalsOfRead
+unfolding leapYear daysInMonth dateExists sizeOutsideLimits measuredOutsideLimits notZeroBeyondCount notZeroUnmeasured withoutDisease outsideLimits notZero refusalsOfRead
 own-refusals =
     record {
       node15 = refl;

@@ -16,7 +16,7 @@ use Rattle.laws.proofs.SomeNumber.{some-none}
 use Rattle.laws.proofs.FirstRefusal.{none-meets, first-append, none-of-both}
 use Rattle.dates.specs.Calendar.{dateExists}
 use Rattle.records.specs.Entries.{dateOf}
-use Rattle.records.specs.Refusals.{ownNumber, mostTargets, largestSize, leastSize, wrongSize, largeMeasured, setBeyond, sizedUnmeasured, targetAt, someTarget, withoutDisease, outsideLimits, notZero, refusalsOfRead, refusalsOf, refusalOf}
+use Rattle.records.specs.Refusals.{ownNumber, mostTargets, largestSize, leastSize, sizeOutsideLimits, measuredOutsideLimits, notZeroBeyondCount, notZeroUnmeasured, targetAt, someTarget, withoutDisease, outsideLimits, notZero, refusalsOfRead, refusalsOfRecord, refusalOfRecord}
 use Rattle.records.specs.declared.Record.{Record}
 use Rattle.records.specs.declared.BaselineEntry.{BaselineEntry}
 use Rattle.records.specs.declared.Entry.{Entry}
@@ -59,27 +59,27 @@ no-refusal r badstatus spare p = rw (p .date, p .lawful, p .limits, p .clear, p 
 
 -- the refusals of a record before others
 module _ (r : Record) (others : List Refusal) where
-  pub after-own : first (refusalsOf r ++ others) ≡ pick (eqb (refusalOf r) 0) (first others) (refusalOf r)
-  after-own = first-append (refusalsOf r) others (own-numbered r false false)
+  pub after-own : first (refusalsOfRecord r ++ others) ≡ pick (eqb (refusalOfRecord r) 0) (first others) (refusalOfRecord r)
+  after-own = first-append (refusalsOfRecord r) others (own-numbered r false false)
 
-  pub none-after-own : (first (refusalsOf r ++ others) ≡ 0) ↔ ((refusalOf r ≡ 0) × (first others ≡ 0))
-  none-after-own = none-of-both (refusalsOf r) others (own-numbered r false false)
+  pub none-after-own : (first (refusalsOfRecord r ++ others) ≡ 0) ↔ ((refusalOfRecord r ≡ 0) × (first others ≡ 0))
+  none-after-own = none-of-both (refusalsOfRecord r) others (own-numbered r false false)
 
 -- a target beyond a count of 0 is clear
-pub clear-target : (k : ℕ) (mark : Bool) (size : ℕ) → setBeyond 0 k mark size ≡ false → (mark ≡ false) × (size ≡ 0)
-unfolding setBeyond
+pub clear-target : (k : ℕ) (mark : Bool) (size : ℕ) → notZeroBeyondCount 0 k mark size ≡ false → (mark ≡ false) × (size ≡ 0)
+unfolding notZeroBeyondCount
 clear-target k mark size e =
     let l : leb 0 k ≡ true = le-leb 0 k (omega arith) in
     let p = either-false mark (ltb 0 size) (rw l at e) in
     let z = ltb-false 0 size (p .1) in
     (p .0, omega arith)
 
-small-clear : (k : ℕ) (mark : Bool) (size : ℕ) → setBeyond 0 k mark size ≡ false → size ≤ largestSize
+small-clear : (k : ℕ) (mark : Bool) (size : ℕ) → notZeroBeyondCount 0 k mark size ≡ false → size ≤ largestSize
 small-clear k mark size e = let z = clear-target k mark size e in omega arith
 
-small-counted : (count k : ℕ) (mark : Bool) (size : ℕ) → wrongSize count k mark size ≡ false →
-    setBeyond count k mark size ≡ false → size ≤ largestSize
-unfolding wrongSize setBeyond
+small-counted : (count k : ℕ) (mark : Bool) (size : ℕ) → sizeOutsideLimits count k mark size ≡ false →
+    notZeroBeyondCount count k mark size ≡ false → size ≤ largestSize
+unfolding sizeOutsideLimits notZeroBeyondCount
 small-counted count k mark size a b = go (ltb k count) refl
   where
     go : (t : Bool) → ltb k count ≡ t → size ≤ largestSize
@@ -89,30 +89,30 @@ small-counted count k mark size a b = go (ltb k count) refl
         let z = ltb-false 0 size (either-false mark (ltb 0 size) (rw l at b) .1) in
         omega arith
 
-small-measured : (mark : Bool) (size : ℕ) → largeMeasured mark size ≡ false → sizedUnmeasured mark size ≡ false →
+small-measured : (mark : Bool) (size : ℕ) → measuredOutsideLimits mark size ≡ false → notZeroUnmeasured mark size ≡ false →
     size ≤ largestSize
-unfolding largeMeasured sizedUnmeasured
+unfolding measuredOutsideLimits notZeroUnmeasured
 small-measured true size a b = ltb-false largestSize size a
 small-measured false size a b = let z = ltb-false 0 size b in omega arith
 
 baseline : (a : Bool) (b : BaselineEntry) (m : List Bool) (s : List ℕ) →
-    both a (either (ltb mostTargets (b .count)) (either (withoutDisease b) (someTarget (wrongSize (b .count)) m s))) ≡ false →
-    pick a (someTarget (setBeyond (b .count)) m s)
-    (either (b .nontarget) (either (ltb 0 (b .count)) (someTarget (setBeyond 0) m s))) ≡ false →
+    both a (either (ltb mostTargets (b .count)) (either (withoutDisease b) (someTarget (sizeOutsideLimits (b .count)) m s))) ≡ false →
+    pick a (someTarget (notZeroBeyondCount (b .count)) m s)
+    (either (b .nontarget) (either (ltb 0 (b .count)) (someTarget (notZeroBeyondCount 0) m s))) ≡ false →
     (b .count ≤ mostTargets) × ((k : ℕ) → k < mostTargets → getD s k 0 ≤ largestSize)
 baseline true b m s e z =
     let p = either-false (ltb mostTargets (b .count)) _ e in
     let q = either-false (withoutDisease b) _ (p .1) in (
       ltb-false mostTargets (b .count) (p .0),
       λ k l. small-counted (b .count) k (getD m k false) (getD s k 0)
-          (some-none (targetAt (wrongSize (b .count)) m s) mostTargets (q .1) k l)
-          (some-none (targetAt (setBeyond (b .count)) m s) mostTargets z k l),
+          (some-none (targetAt (sizeOutsideLimits (b .count)) m s) mostTargets (q .1) k l)
+          (some-none (targetAt (notZeroBeyondCount (b .count)) m s) mostTargets z k l),
     )
 baseline false b m s e z =
     let p = either-false (b .nontarget) _ z in
     let q = either-false (ltb 0 (b .count)) _ (p .1) in
     let n = ltb-false 0 (b .count) (q .0) in
-    (omega arith, λ k l. small-clear k (getD m k false) (getD s k 0) (some-none (targetAt (setBeyond 0) m s) mostTargets (q .1) k l))
+    (omega arith, λ k l. small-clear k (getD m k false) (getD s k 0) (some-none (targetAt (notZeroBeyondCount 0) m s) mostTargets (q .1) k l))
 
 pub small-baseline : (b : BaselineEntry) (m : List Bool) (s : List ℕ) → outsideLimits (Baseline b) m s ≡ false →
     notZero (Baseline b) m s ≡ false → (b .count ≤ mostTargets) × ((k : ℕ) → k < mostTargets → getD s k 0 ≤ largestSize)
@@ -124,10 +124,10 @@ pub small-sizes : (e : Entry) (m : List Bool) (s : List ℕ) → outsideLimits e
 unfolding outsideLimits notZero
 small-sizes (Baseline b) m s e z k l = small-baseline b m s e z .1 k l
 small-sizes (Visit v) m s e z k l =
-    small-measured (getD m k false) (getD s k 0) (some-none (targetAt (λ (i : ℕ). largeMeasured) m s) mostTargets e k l)
-    (some-none (targetAt (λ (i : ℕ). sizedUnmeasured) m s) mostTargets z k l)
-small-sizes (Therapy d) m s e z k l = small-clear k (getD m k false) (getD s k 0) (some-none (targetAt (setBeyond 0) m s) mostTargets z k l)
-small-sizes (Death d) m s e z k l = small-clear k (getD m k false) (getD s k 0) (some-none (targetAt (setBeyond 0) m s) mostTargets z k l)
+    small-measured (getD m k false) (getD s k 0) (some-none (targetAt (λ (i : ℕ). measuredOutsideLimits) m s) mostTargets e k l)
+    (some-none (targetAt (λ (i : ℕ). notZeroUnmeasured) m s) mostTargets z k l)
+small-sizes (Therapy d) m s e z k l = small-clear k (getD m k false) (getD s k 0) (some-none (targetAt (notZeroBeyondCount 0) m s) mostTargets z k l)
+small-sizes (Death d) m s e z k l = small-clear k (getD m k false) (getD s k 0) (some-none (targetAt (notZeroBeyondCount 0) m s) mostTargets z k l)
 
 pub small-count : (e : Entry) (b : BaselineEntry) (m : List Bool) (s : List ℕ) → e ≡ Baseline b → outsideLimits e m s ≡ false →
     notZero e m s ≡ false → b .count ≤ mostTargets

@@ -9,7 +9,7 @@ use Rattle.laws.specs.Refusals.{_when_, first}
 use Rattle.dates.specs.Calendar.{dateExists}
 use Rattle.dates.specs.declared.Date.{Date}
 use Rattle.records.specs.Entries.{dateOf}
-use Rattle.records.specs.Refusals.{checkNumber, largeMeasured, sizedUnmeasured, someTarget, outsideLimits, notZero, ChecksVisit, refusalsOfRead}
+use Rattle.records.specs.Refusals.{checkNumber, measuredOutsideLimits, notZeroUnmeasured, someTarget, outsideLimits, notZero, ChecksVisit, refusalsOfRead}
 use Rattle.records.specs.declared.Entry.{Entry}
 use Rattle.records.specs.declared.Entry.the-variants.{Visit}
 use Rattle.records.specs.declared.VisitEntry.{VisitEntry}
@@ -32,7 +32,7 @@ module _ (r : Record) (badstatus spare : Bool) (d : Date) (v : Bool) (de : d ≡
     by-fields n u e = rw (← de, ← ve, h, u) e
 
 pub visit-refusal : (measured : List Bool) (sizes : List ℕ) (badstatus spare large sized : Bool) (c : CheckAnswer) →
-    large ≡ someTarget (λ (i : ℕ). largeMeasured) measured sizes → sized ≡ someTarget (λ (i : ℕ). sizedUnmeasured) measured sizes →
+    large ≡ someTarget (λ (i : ℕ). measuredOutsideLimits) measured sizes → sized ≡ someTarget (λ (i : ℕ). notZeroUnmeasured) measured sizes →
     checkNumber c ≡ first (4 when (badstatus || large) ∷ 5 when (spare || sized) ∷ []) → ChecksVisit measured sizes badstatus spare c
 unfolding outsideLimits notZero
 visit-refusal measured sizes badstatus spare large sized c lq sq e v = e ∙ rw (lq, sq)

@@ -9,7 +9,7 @@ use Rattle.dates.specs.Laws.{ymd}
 use Rattle.dates.specs.declared.Date.{Date}
 use Rattle.records.specs.Entries.{dateOf, kindNumber, statusNumber}
 use Rattle.laws.specs.Refusals.{first}
-use Rattle.records.specs.Refusals.{ownNumber, checkNumber, refusalsOfRead, refusalOf}
+use Rattle.records.specs.Refusals.{ownNumber, checkNumber, refusalsOfRead, refusalOfRecord}
 use Rattle.records.specs.declared.CheckAnswer.the-variants as C
 use Rattle.records.specs.declared.OwnRefusal.the-variants as O
 use Rattle.records.specs.declared.Entry.{Entry}
@@ -45,14 +45,14 @@ abbrev pub deathDated : Date → Record
 deathDated d = withTargets (E.Death d) [] []
 
 -- an assessed baseline without non-target disease, by its count, nodes and sizes; a visit, by what was measured; a missing baseline
-abbrev pub assessed : ℕ → List Bool → List ℕ → ℕ
-assessed count nodes sizes = refusalOf (baselineDated (ymd 2020 1 1) true false count nodes sizes)
+abbrev pub refusalOfAssessed : ℕ → List Bool → List ℕ → ℕ
+refusalOfAssessed count nodes sizes = refusalOfRecord (baselineDated (ymd 2020 1 1) true false count nodes sizes)
 
-abbrev pub visited : List Bool → List ℕ → ℕ
-visited measured sizes = refusalOf (visitDated (ymd 2020 2 12) S.NN false measured sizes)
+abbrev pub refusalOfVisit : List Bool → List ℕ → ℕ
+refusalOfVisit measured sizes = refusalOfRecord (visitDated (ymd 2020 2 12) S.NN false measured sizes)
 
-abbrev pub missing : Bool → ℕ → List Bool → List ℕ → ℕ
-missing nontarget count nodes sizes = refusalOf (baselineDated (ymd 2020 1 1) false nontarget count nodes sizes)
+abbrev pub refusalOfMissing : Bool → ℕ → List Bool → List ℕ → ℕ
+refusalOfMissing nontarget count nodes sizes = refusalOfRecord (baselineDated (ymd 2020 1 1) false nontarget count nodes sizes)
 
 -- a baseline that counts six targets of 10 and has six places
 abbrev pub sixPlaces : Record
@@ -73,42 +73,42 @@ eachKind d =
 
 pub record OwnRefusals : Type 0 where
   -- 4: a node from 15, any other target from 10, each to 500
-  pub node15 : assessed 1 (true ∷ []) (15 ∷ []) ≡ 0
-  pub node14 : assessed 1 (true ∷ []) (14 ∷ []) ≡ 4
-  pub other10 : assessed 1 [] (10 ∷ []) ≡ 0
-  pub other9 : assessed 1 [] (9 ∷ []) ≡ 4
-  pub size500 : assessed 1 [] (500 ∷ []) ≡ 0
-  pub size501 : assessed 1 [] (501 ∷ []) ≡ 4
+  pub node15 : refusalOfAssessed 1 (true ∷ []) (15 ∷ []) ≡ 0
+  pub node14 : refusalOfAssessed 1 (true ∷ []) (14 ∷ []) ≡ 4
+  pub other10 : refusalOfAssessed 1 [] (10 ∷ []) ≡ 0
+  pub other9 : refusalOfAssessed 1 [] (9 ∷ []) ≡ 4
+  pub size500 : refusalOfAssessed 1 [] (500 ∷ []) ≡ 0
+  pub size501 : refusalOfAssessed 1 [] (501 ∷ []) ≡ 4
   -- every target within the count is judged, the fifth too
-  pub fiveTargets : assessed 5 [] (10 ∷ 10 ∷ 10 ∷ 10 ∷ 10 ∷ []) ≡ 0
-  pub fifthTarget : assessed 5 [] (10 ∷ 10 ∷ 10 ∷ 10 ∷ 9 ∷ []) ≡ 4
+  pub fiveTargets : refusalOfAssessed 5 [] (10 ∷ 10 ∷ 10 ∷ 10 ∷ 10 ∷ []) ≡ 0
+  pub fifthTarget : refusalOfAssessed 5 [] (10 ∷ 10 ∷ 10 ∷ 10 ∷ 9 ∷ []) ≡ 4
   -- target count 0 to 5
-  pub sixTargets : refusalOf sixPlaces ≡ 4
+  pub sixTargets : refusalOfRecord sixPlaces ≡ 4
   -- assessed needs a target or non-target disease
-  pub withoutDisease : assessed 0 [] [] ≡ 4
-  pub nontargetAlone : refusalOf (baselineDated (ymd 2020 1 1) true true 0 [] []) ≡ 0
+  pub withoutDisease : refusalOfAssessed 0 [] [] ≡ 4
+  pub nontargetAlone : refusalOfRecord (baselineDated (ymd 2020 1 1) true true 0 [] []) ≡ 0
   -- a size measured is from 0 to 500, and a status is none of 5 to 7
-  pub measured0 : visited (true ∷ []) (0 ∷ []) ≡ 0
-  pub measured500 : visited (true ∷ []) (500 ∷ []) ≡ 0
-  pub measured501 : visited (true ∷ []) (501 ∷ []) ≡ 4
+  pub measured0 : refusalOfVisit (true ∷ []) (0 ∷ []) ≡ 0
+  pub measured500 : refusalOfVisit (true ∷ []) (500 ∷ []) ≡ 0
+  pub measured501 : refusalOfVisit (true ∷ []) (501 ∷ []) ≡ 4
   pub noStatus : first (refusalsOfRead (visitDated (ymd 2020 2 12) S.NN false [] []) true false) ≡ 4
   -- 5 alone: targets beyond the count, the size of an unmeasured target, everything after a 0 assessed bit, and spare bits
-  pub markBeyond : assessed 1 (false ∷ true ∷ []) (10 ∷ []) ≡ 5
-  pub sizeBeyond : assessed 1 [] (10 ∷ 501 ∷ []) ≡ 5
-  pub unmeasured : visited [] (501 ∷ []) ≡ 5
-  pub unmeasured1 : visited [] (1 ∷ []) ≡ 5
-  pub missingAlone : missing false 0 [] [] ≡ 0
-  pub missingNontarget : missing true 0 [] [] ≡ 5
-  pub missingCount1 : missing false 1 [] [] ≡ 5
-  pub missingCount7 : missing false 7 [] [] ≡ 5
-  pub missingNode : missing false 0 (true ∷ []) [] ≡ 5
-  pub missingSize : missing false 0 [] (501 ∷ []) ≡ 5
+  pub markBeyond : refusalOfAssessed 1 (false ∷ true ∷ []) (10 ∷ []) ≡ 5
+  pub sizeBeyond : refusalOfAssessed 1 [] (10 ∷ 501 ∷ []) ≡ 5
+  pub unmeasured : refusalOfVisit [] (501 ∷ []) ≡ 5
+  pub unmeasured1 : refusalOfVisit [] (1 ∷ []) ≡ 5
+  pub missingAlone : refusalOfMissing false 0 [] [] ≡ 0
+  pub missingNontarget : refusalOfMissing true 0 [] [] ≡ 5
+  pub missingCount1 : refusalOfMissing false 1 [] [] ≡ 5
+  pub missingCount7 : refusalOfMissing false 7 [] [] ≡ 5
+  pub missingNode : refusalOfMissing false 0 (true ∷ []) [] ≡ 5
+  pub missingSize : refusalOfMissing false 0 [] (501 ∷ []) ≡ 5
   -- therapy, death: what would be a measured size of 501 is 5 and not 4
-  pub therapyMark : refusalOf (withTargets (E.Therapy (ymd 2020 2 12)) (true ∷ []) []) ≡ 5
-  pub therapyTarget : refusalOf (withTargets (E.Therapy (ymd 2020 2 12)) (true ∷ []) (501 ∷ [])) ≡ 5
-  pub deathMark : refusalOf (withTargets (E.Death (ymd 2020 2 12)) (true ∷ []) []) ≡ 5
-  pub deathSize : refusalOf (withTargets (E.Death (ymd 2020 2 12)) [] (1 ∷ [])) ≡ 5
-  pub deathTarget : refusalOf (withTargets (E.Death (ymd 2020 2 12)) (true ∷ []) (501 ∷ [])) ≡ 5
+  pub therapyMark : refusalOfRecord (withTargets (E.Therapy (ymd 2020 2 12)) (true ∷ []) []) ≡ 5
+  pub therapyTarget : refusalOfRecord (withTargets (E.Therapy (ymd 2020 2 12)) (true ∷ []) (501 ∷ [])) ≡ 5
+  pub deathMark : refusalOfRecord (withTargets (E.Death (ymd 2020 2 12)) (true ∷ []) []) ≡ 5
+  pub deathSize : refusalOfRecord (withTargets (E.Death (ymd 2020 2 12)) [] (1 ∷ [])) ≡ 5
+  pub deathTarget : refusalOfRecord (withTargets (E.Death (ymd 2020 2 12)) (true ∷ []) (501 ∷ [])) ≡ 5
   pub spareBit : first (refusalsOfRead (therapyDated (ymd 2020 2 12)) false true) ≡ 5
   -- 3 before 4, and 4 before 5
   pub dateFirst : first (refusalsOfRead (visitDated (ymd 2021 2 29) S.NN false (true ∷ []) (501 ∷ 1 ∷ [])) true true) ≡ 3

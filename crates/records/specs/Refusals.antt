@@ -44,20 +44,20 @@ leastSize node = pick node 15 10
 
 -- what one target, by its place, its mark and its size, can break:
 -- a size within the count is from the least size to the largest
-unfoldable pub wrongSize : ℕ → ℕ → Bool → ℕ → Bool
-wrongSize count i node size = both (ltb i count) (either (ltb size (leastSize node)) (ltb largestSize size))
+unfoldable pub sizeOutsideLimits : ℕ → ℕ → Bool → ℕ → Bool
+sizeOutsideLimits count i node size = both (ltb i count) (either (ltb size (leastSize node)) (ltb largestSize size))
 
 -- a size measured is at most the largest
-unfoldable pub largeMeasured : Bool → ℕ → Bool
-largeMeasured measured size = both measured (ltb largestSize size)
+unfoldable pub measuredOutsideLimits : Bool → ℕ → Bool
+measuredOutsideLimits measured size = both measured (ltb largestSize size)
 
 -- a target beyond the count is zero
-unfoldable pub setBeyond : ℕ → ℕ → Bool → ℕ → Bool
-setBeyond count i mark size = both (leb count i) (either mark (ltb 0 size))
+unfoldable pub notZeroBeyondCount : ℕ → ℕ → Bool → ℕ → Bool
+notZeroBeyondCount count i mark size = both (leb count i) (either mark (ltb 0 size))
 
 -- the size of an unmeasured target is zero
-unfoldable pub sizedUnmeasured : Bool → ℕ → Bool
-sizedUnmeasured measured size = both (not measured) (ltb 0 size)
+unfoldable pub notZeroUnmeasured : Bool → ℕ → Bool
+notZeroUnmeasured measured size = both (not measured) (ltb 0 size)
 
 abbrev pub targetAt : (ℕ → Bool → ℕ → Bool) → List Bool → List ℕ → ℕ → Bool
 targetAt f marks sizes i = f i (getD marks i false) (getD sizes i 0)
@@ -74,19 +74,19 @@ withoutDisease b = both (eqb (b .count) 0) (not (b .nontarget))
 unfoldable pub outsideLimits : Entry → List Bool → List ℕ → Bool
 outsideLimits (Baseline b) marks sizes =
     both (b .assessed)
-    (either (ltb mostTargets (b .count)) (either (withoutDisease b) (someTarget (wrongSize (b .count)) marks sizes)))
-outsideLimits (Visit v) marks sizes = someTarget (λ (i : ℕ). largeMeasured) marks sizes
+    (either (ltb mostTargets (b .count)) (either (withoutDisease b) (someTarget (sizeOutsideLimits (b .count)) marks sizes)))
+outsideLimits (Visit v) marks sizes = someTarget (λ (i : ℕ). measuredOutsideLimits) marks sizes
 outsideLimits (Therapy d) marks sizes = false
 outsideLimits (Death d) marks sizes = false
 
 -- 5: targets beyond the count, the size of an unmeasured target and everything after a 0 assessed bit are zero
 unfoldable pub notZero : Entry → List Bool → List ℕ → Bool
 notZero (Baseline b) marks sizes =
-    pick (b .assessed) (someTarget (setBeyond (b .count)) marks sizes)
-    (either (b .nontarget) (either (ltb 0 (b .count)) (someTarget (setBeyond 0) marks sizes)))
-notZero (Visit v) marks sizes = someTarget (λ (i : ℕ). sizedUnmeasured) marks sizes
-notZero (Therapy d) marks sizes = someTarget (setBeyond 0) marks sizes
-notZero (Death d) marks sizes = someTarget (setBeyond 0) marks sizes
+    pick (b .assessed) (someTarget (notZeroBeyondCount (b .count)) marks sizes)
+    (either (b .nontarget) (either (ltb 0 (b .count)) (someTarget (notZeroBeyondCount 0) marks sizes)))
+notZero (Visit v) marks sizes = someTarget (λ (i : ℕ). notZeroUnmeasured) marks sizes
+notZero (Therapy d) marks sizes = someTarget (notZeroBeyondCount 0) marks sizes
+notZero (Death d) marks sizes = someTarget (notZeroBeyondCount 0) marks sizes
 
 -- the refusals of fields, where their date is none or not, with a status that is none (4) or a spare bit that is set (5) beside them
 abbrev pub refusalsOfFields : Bool → Entry → List Bool → List ℕ → Bool → Bool → List Refusal
@@ -105,9 +105,9 @@ unfoldable pub refusalsOfRead : Record → Bool → Bool → List Refusal
 refusalsOfRead r badstatus spare = refusalsOfFields (not (dateExists (dateOf (r .entry)))) (r .entry) (r .marks) (r .sizes) badstatus spare
 
 -- a record value has neither
-abbrev pub refusalsOf : Record → List Refusal
-refusalsOf r = refusalsOfRead r false false
+abbrev pub refusalsOfRecord : Record → List Refusal
+refusalsOfRecord r = refusalsOfRead r false false
 
 -- the first that meets, 0 for none
-abbrev pub refusalOf : Record → ℕ
-refusalOf r = first (refusalsOf r)
+abbrev pub refusalOfRecord : Record → ℕ
+refusalOfRecord r = first (refusalsOfRecord r)

@@ -6,7 +6,7 @@ ghost use mathlib.Core.List.{[], _∷_};
 ghost use Rattle.laws.specs.Choice.{either};
 ghost use Rattle.laws.specs.Refusals.{_when_, first};
 ghost use Rattle.records.specs.Entries.{dateOf};
-ghost use Rattle.records.specs.Refusals.{ownNumber, checkNumber, withoutDisease, outsideLimits, notZero, ChecksVisit, refusalsOfRead, refusalOf};
+ghost use Rattle.records.specs.Refusals.{ownNumber, checkNumber, withoutDisease, outsideLimits, notZero, ChecksVisit, refusalsOfRead, refusalOfRecord};
 ghost use Rattle.records.specs.declared.Entry.the-variants.{Baseline};
 
 mod targets; // targets.rt: what some of the five targets breaks
@@ -104,7 +104,7 @@ fn outside_limits(b: BaselineEntry, marks: [bool; 5], sizes: [u16; 5]) -> bool
 {
     b.assessed
         && (MOST_TARGETS < b.count
-            || (without_disease(b) || targets::some_wrong_size(b.count, marks, sizes)))
+            || (without_disease(b) || targets::some_size_outside_limits(b.count, marks, sizes)))
 }
 
 // Refusal 5 of a baseline.
@@ -112,9 +112,9 @@ fn not_zero(b: BaselineEntry, marks: [bool; 5], sizes: [u16; 5]) -> bool
     ensures { λ r. ⌜ r ≡ notZero (Baseline b) marks sizes ⌝ }
 {
     if b.assessed {
-        targets::some_set_beyond(b.count, marks, sizes)
+        targets::some_not_zero_beyond_count(b.count, marks, sizes)
     } else {
-        b.nontarget || (0 < b.count || targets::some_set_beyond(0, marks, sizes))
+        b.nontarget || (0 < b.count || targets::some_not_zero_beyond_count(0, marks, sizes))
     }
 }
 
@@ -140,8 +140,8 @@ pub fn check_visit(
     ensures { λ c. ⌜ ChecksVisit measured sizes badstatus spare c ⌝ }
 {
     first_of(
-        badstatus | targets::some_large_measured(measured, sizes),
-        spare | targets::some_sized_unmeasured(measured, sizes),
+        badstatus | targets::some_measured_outside_limits(measured, sizes),
+        spare | targets::some_not_zero_unmeasured(measured, sizes),
     )
 }
 
@@ -157,8 +157,14 @@ fn check_fields(entry: Entry, marks: [bool; 5], sizes: [u16; 5], spare: bool) ->
             )
         }
         Entry::Visit(_) => check_visit(marks, sizes, false, spare),
-        Entry::Therapy(_) => first_of(false, spare | targets::some_set_beyond(0, marks, sizes)),
-        Entry::Death(_) => first_of(false, spare | targets::some_set_beyond(0, marks, sizes)),
+        Entry::Therapy(_) => first_of(
+            false,
+            spare | targets::some_not_zero_beyond_count(0, marks, sizes),
+        ),
+        Entry::Death(_) => first_of(
+            false,
+            spare | targets::some_not_zero_beyond_count(0, marks, sizes),
+        ),
     }
 }
 
@@ -180,7 +186,7 @@ pub fn check_read(r: Record, badstatus: bool, spare: bool) -> CheckAnswer
 }
 
 pub fn check(r: Record) -> CheckAnswer
-    ensures { λ c. ⌜ checkNumber c ≡ refusalOf r ⌝ }
+    ensures { λ c. ⌜ checkNumber c ≡ refusalOfRecord r ⌝ }
 {
     check_read(r, false, false)
 }

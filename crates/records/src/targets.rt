@@ -3,7 +3,7 @@ use super::LARGEST_SIZE;
 ghost use mathlib.Core.Path.{_≡_};
 ghost use Prim.Native.Nat.{ℕ};
 ghost use Rattle.laws.specs.Choice.{either};
-ghost use Rattle.records.specs.Refusals.{leastSize, wrongSize, largeMeasured, setBeyond, sizedUnmeasured, someTarget};
+ghost use Rattle.records.specs.Refusals.{leastSize, sizeOutsideLimits, measuredOutsideLimits, notZeroBeyondCount, notZeroUnmeasured, someTarget};
 
 const LEAST_NODE: u16 = 15;
 
@@ -16,26 +16,26 @@ fn least_size(node: bool) -> u16
 }
 
 // Within the count, a size outside the limits.
-fn wrong_size(count: u8, i: u8, node: bool, size: u16) -> bool
-    ensures { λ r. ⌜ r ≡ wrongSize count i node size ⌝ }
+fn size_outside_limits(count: u8, i: u8, node: bool, size: u16) -> bool
+    ensures { λ r. ⌜ r ≡ sizeOutsideLimits count i node size ⌝ }
 {
     i < count && (size < least_size(node) || LARGEST_SIZE < size)
 }
 
-fn large_measured(measured: bool, size: u16) -> bool
-    ensures { λ r. ⌜ r ≡ largeMeasured measured size ⌝ }
+fn measured_outside_limits(measured: bool, size: u16) -> bool
+    ensures { λ r. ⌜ r ≡ measuredOutsideLimits measured size ⌝ }
 {
     measured && LARGEST_SIZE < size
 }
 
-fn set_beyond(count: u8, i: u8, mark: bool, size: u16) -> bool
-    ensures { λ r. ⌜ r ≡ setBeyond count i mark size ⌝ }
+fn not_zero_beyond_count(count: u8, i: u8, mark: bool, size: u16) -> bool
+    ensures { λ r. ⌜ r ≡ notZeroBeyondCount count i mark size ⌝ }
 {
     count <= i && (mark || 0 < size)
 }
 
-fn sized_unmeasured(measured: bool, size: u16) -> bool
-    ensures { λ r. ⌜ r ≡ sizedUnmeasured measured size ⌝ }
+fn not_zero_unmeasured(measured: bool, size: u16) -> bool
+    ensures { λ r. ⌜ r ≡ notZeroUnmeasured measured size ⌝ }
 {
     !measured && 0 < size
 }
@@ -46,50 +46,50 @@ fn any_of_five(a: bool, b: bool, c: bool, d: bool, e: bool) -> bool
     a | b | c | d | e
 }
 
-pub(crate) fn some_wrong_size(count: u8, nodes: [bool; 5], sizes: [u16; 5]) -> bool
-    ensures { λ r. ⌜ r ≡ someTarget (wrongSize count) nodes sizes ⌝ }
+pub(crate) fn some_size_outside_limits(count: u8, nodes: [bool; 5], sizes: [u16; 5]) -> bool
+    ensures { λ r. ⌜ r ≡ someTarget (sizeOutsideLimits count) nodes sizes ⌝ }
 {
     any_of_five(
-        wrong_size(count, 0, nodes[0], sizes[0]),
-        wrong_size(count, 1, nodes[1], sizes[1]),
-        wrong_size(count, 2, nodes[2], sizes[2]),
-        wrong_size(count, 3, nodes[3], sizes[3]),
-        wrong_size(count, 4, nodes[4], sizes[4]),
+        size_outside_limits(count, 0, nodes[0], sizes[0]),
+        size_outside_limits(count, 1, nodes[1], sizes[1]),
+        size_outside_limits(count, 2, nodes[2], sizes[2]),
+        size_outside_limits(count, 3, nodes[3], sizes[3]),
+        size_outside_limits(count, 4, nodes[4], sizes[4]),
     )
 }
 
-pub(crate) fn some_large_measured(marks: [bool; 5], sizes: [u16; 5]) -> bool
-    ensures { λ r. ⌜ r ≡ someTarget (λ (i : ℕ). largeMeasured) marks sizes ⌝ }
+pub(crate) fn some_measured_outside_limits(marks: [bool; 5], sizes: [u16; 5]) -> bool
+    ensures { λ r. ⌜ r ≡ someTarget (λ (i : ℕ). measuredOutsideLimits) marks sizes ⌝ }
 {
     any_of_five(
-        large_measured(marks[0], sizes[0]),
-        large_measured(marks[1], sizes[1]),
-        large_measured(marks[2], sizes[2]),
-        large_measured(marks[3], sizes[3]),
-        large_measured(marks[4], sizes[4]),
+        measured_outside_limits(marks[0], sizes[0]),
+        measured_outside_limits(marks[1], sizes[1]),
+        measured_outside_limits(marks[2], sizes[2]),
+        measured_outside_limits(marks[3], sizes[3]),
+        measured_outside_limits(marks[4], sizes[4]),
     )
 }
 
-pub(crate) fn some_set_beyond(count: u8, marks: [bool; 5], sizes: [u16; 5]) -> bool
-    ensures { λ r. ⌜ r ≡ someTarget (setBeyond count) marks sizes ⌝ }
+pub(crate) fn some_not_zero_beyond_count(count: u8, marks: [bool; 5], sizes: [u16; 5]) -> bool
+    ensures { λ r. ⌜ r ≡ someTarget (notZeroBeyondCount count) marks sizes ⌝ }
 {
     any_of_five(
-        set_beyond(count, 0, marks[0], sizes[0]),
-        set_beyond(count, 1, marks[1], sizes[1]),
-        set_beyond(count, 2, marks[2], sizes[2]),
-        set_beyond(count, 3, marks[3], sizes[3]),
-        set_beyond(count, 4, marks[4], sizes[4]),
+        not_zero_beyond_count(count, 0, marks[0], sizes[0]),
+        not_zero_beyond_count(count, 1, marks[1], sizes[1]),
+        not_zero_beyond_count(count, 2, marks[2], sizes[2]),
+        not_zero_beyond_count(count, 3, marks[3], sizes[3]),
+        not_zero_beyond_count(count, 4, marks[4], sizes[4]),
     )
 }
 
-pub(crate) fn some_sized_unmeasured(marks: [bool; 5], sizes: [u16; 5]) -> bool
-    ensures { λ r. ⌜ r ≡ someTarget (λ (i : ℕ). sizedUnmeasured) marks sizes ⌝ }
+pub(crate) fn some_not_zero_unmeasured(marks: [bool; 5], sizes: [u16; 5]) -> bool
+    ensures { λ r. ⌜ r ≡ someTarget (λ (i : ℕ). notZeroUnmeasured) marks sizes ⌝ }
 {
     any_of_five(
-        sized_unmeasured(marks[0], sizes[0]),
-        sized_unmeasured(marks[1], sizes[1]),
-        sized_unmeasured(marks[2], sizes[2]),
-        sized_unmeasured(marks[3], sizes[3]),
-        sized_unmeasured(marks[4], sizes[4]),
+        not_zero_unmeasured(marks[0], sizes[0]),
+        not_zero_unmeasured(marks[1], sizes[1]),
+        not_zero_unmeasured(marks[2], sizes[2]),
+        not_zero_unmeasured(marks[3], sizes[3]),
+        not_zero_unmeasured(marks[4], sizes[4]),
     )
 }

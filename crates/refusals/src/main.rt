@@ -31,37 +31,37 @@ fn stopped(refusal: FileRefusal) {
 // 2 to 5, a record's own, before those of opening and adding.
 fn own_refusals_of_files() {
     // One target of 20; eleven zeros.
-    history::shown(
+    history::show_history(
         b"no such kind\n",
         b"\x2F\xC8\x21\x88\x14\x00\x00\x00\x00\x00\x00\x00\x00\x00\x00\x00\x00\x00\x00\x00\x00\x00",
     );
     // One target of 20; a visit on day 43 (501), which reading refuses by 4.
-    history::shown(
+    history::show_history(
         b"a measured size of 501\n",
         b"\x2F\xC8\x21\x88\x14\x00\x00\x00\x00\x00\x00\x4F\xC8\x4C\x0B\xEA\x00\x00\x00\x00\x00\x00",
     );
     // One target of 20; a visit on day 43 (not measured, with a size of 501), which reading refuses by 5.
-    history::shown(
+    history::show_history(
         b"an unmeasured size of 501\n",
         b"\x2F\xC8\x21\x88\x14\x00\x00\x00\x00\x00\x00\x4F\xC8\x4C\x03\xEA\x00\x00\x00\x00\x00\x00",
     );
     // A baseline that is assessed, without targets and without non-target disease.
-    history::shown(
+    history::show_history(
         b"assessed without disease\n",
         b"\x2F\xC8\x21\x80\x00\x00\x00\x00\x00\x00\x00",
     );
     // A baseline that is missing with count 7, which reading refuses by 5.
-    history::shown(
+    history::show_history(
         b"5 alone\n",
         b"\x2F\xC8\x21\x38\x00\x00\x00\x00\x00\x00\x00",
     );
     // A visit with status 6, which reading refuses by 4; opening refuses the blank record by 3.
-    history::shown(
+    history::show_history(
         b"4 before 7\n",
         b"\x4F\xC8\x4C\xC8\x31\x03\x00\x00\x00\x00\x00",
     );
     // The baseline of the printed example; the same on 2020-02-30.
-    history::shown(
+    history::show_history(
         b"3 before 8\n",
         b"\x2F\xC8\x21\xD0\x28\x82\x80\x00\x00\x00\x00\x2F\xC8\x5E\xD0\x28\x82\x80\x00\x00\x00\x00",
     );
@@ -70,12 +70,12 @@ fn own_refusals_of_files() {
 // 7 and 8.
 fn baseline_refusals() {
     // A therapy, which opening refuses by 7; a visit, which the blank subject refuses by 12.
-    history::shown(
+    history::show_history(
         b"no baseline\n",
         b"\x6F\xC8\x21\x00\x00\x00\x00\x00\x00\x00\x00\x4F\xC8\x4C\x48\x31\x03\x00\x00\x00\x00\x00",
     );
     // The baseline of the printed example twice.
-    history::shown(
+    history::show_history(
         b"a second baseline\n",
         b"\x2F\xC8\x21\xD0\x28\x82\x80\x00\x00\x00\x00\x2F\xC8\x21\xD0\x28\x82\x80\x00\x00\x00\x00",
     );
@@ -84,32 +84,32 @@ fn baseline_refusals() {
 // 9 to 11.
 fn later_refusals() {
     // The baseline of the printed example; death on day 5, therapy on day 6.
-    history::shown(
+    history::show_history(
         b"after a death\n",
         b"\x2F\xC8\x21\xD0\x28\x82\x80\x00\x00\x00\x00\x8F\xC8\x25\x00\x00\x00\x00\x00\x00\x00\x00\x6F\xC8\x26\x00\x00\x00\x00\x00\x00\x00\x00",
     );
     // One target of 20; death on day 5, a visit on day 4 (20).
-    history::shown(
+    history::show_history(
         b"9 before 10\n",
         b"\x2F\xC8\x21\x88\x14\x00\x00\x00\x00\x00\x00\x8F\xC8\x25\x00\x00\x00\x00\x00\x00\x00\x00\x4F\xC8\x24\x08\x28\x00\x00\x00\x00\x00\x00",
     );
     // The baseline of the printed example; a visit on day 1, which 10 meets.
-    history::shown(
+    history::show_history(
         b"a visit on day 1\n",
         b"\x2F\xC8\x21\xD0\x28\x82\x80\x00\x00\x00\x00\x4F\xC8\x21\x48\x31\x03\x00\x00\x00\x00\x00",
     );
     // The baseline of the printed example; a therapy on 2019-12-31, which 10 meets.
-    history::shown(
+    history::show_history(
         b"before randomisation\n",
         b"\x2F\xC8\x21\xD0\x28\x82\x80\x00\x00\x00\x00\x6F\xC7\x9F\x00\x00\x00\x00\x00\x00\x00\x00",
     );
     // One target of 20; visits on day 43 (20), and on the same day with two measured.
-    history::shown(
+    history::show_history(
         b"10 before 11\n",
         b"\x2F\xC8\x21\x88\x14\x00\x00\x00\x00\x00\x00\x4F\xC8\x4C\x08\x28\x00\x00\x00\x00\x00\x00\x4F\xC8\x4C\x08\x29\x02\x80\x00\x00\x00\x00",
     );
     // One target of 20; a visit on day 43 with two measured.
-    history::shown(
+    history::show_history(
         b"a target beyond the count\n",
         b"\x2F\xC8\x21\x88\x14\x00\x00\x00\x00\x00\x00\x4F\xC8\x4C\x08\x29\x05\x00\x00\x00\x00\x00",
     );
@@ -118,16 +118,16 @@ fn later_refusals() {
 // Refusal 13, and as many records as a file may have, of kind 0.
 fn lengths() {
     // Nothing.
-    history::listed(b"no bytes\n", b"");
+    history::show_file(b"no bytes\n", b"");
     // The first baseline and one byte more.
-    history::listed(
+    history::show_file(
         b"twelve bytes\n",
         b"\x2F\xC8\x21\xD0\x28\x82\x80\x00\x00\x00\x00\x00",
     );
     let zeros = [0u8; 44011];
-    history::listed(b"44,011 bytes\n", &zeros);
-    history::listed(b"44,001 bytes\n", &zeros[..44001]);
-    history::listed(b"44,000 bytes\n", &zeros[..44000]);
+    history::show_file(b"44,011 bytes\n", &zeros);
+    history::show_file(b"44,001 bytes\n", &zeros[..44001]);
+    history::show_file(b"44,000 bytes\n", &zeros[..44000]);
 }
 
 fn print_own(refusal: OwnRefusal) {
@@ -230,14 +230,14 @@ fn late_response() {
         followup: FollowUp {
             earlier: earlier,
             latestday: StudyDay(78),
-            treated: false,
+            therapyrecorded: false,
             deathday: MaybeDay::Absent,
             event: EventDays {
                 progression: MaybeDay::Absent,
                 lastvisit: StudyDay(43),
                 lastevaluable: MaybeDay::On(StudyDay(43)),
             },
-            counted: CountingVisits {
+            counting: CountingVisits {
                 firstresponse: MaybeDay::On(StudyDay(50)),
                 crstart: MaybeDay::Absent,
                 best: BestResponse::PR,
@@ -252,7 +252,7 @@ fn late_response() {
 }
 
 fn longest(bytes: &[u8]) {
-    history::shown(b"the longest file\n", bytes);
+    history::show_history(b"the longest file\n", bytes);
 }
 
 // The longest file is standard input: randomisation on 1990-01-01 with targets 40 and node 20 and non-target disease, and 3,999 visits, on

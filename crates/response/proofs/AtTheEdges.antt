@@ -1,8 +1,8 @@
 -- The examples are computed by the definitions. By its name this file is checked first, so that a wrong definition is refused at an example.
 -- Assumes nothing.
 use mathlib.Core.Path.{refl}
-use Rattle.response_rules.specs.SumOfDiameters.{measuredSum, baselineSum, allMeasured}
-use Rattle.response_rules.specs.TargetAnswer.{allGone, grown, shrunk, targetAnswer}
+use Rattle.response_rules.specs.SumOfDiameters.{sumOfDiameters, baselineSum, allMeasured}
+use Rattle.response_rules.specs.TargetAnswer.{allDisappeared, progressionFromNadir, partialResponse, targetAnswer}
 use Rattle.response_rules.specs.Nadir.{afterVisit}
 use Rattle.response_rules.specs.OverallAnswer.{overallBy}
 use Rattle.response_rules.specs.Change.{changeBetween, changeOf}
@@ -10,7 +10,7 @@ use Rattle.response_rules.specs.VisitAnswers.{overallAnswer}
 use Rattle.response.specs.Examples.{JudgedVisits}
 
 pub judged-visits : JudgedVisits
-unfolding measuredSum baselineSum allMeasured allGone grown shrunk targetAnswer afterVisit overallBy overallAnswer changeBetween changeOf
+unfolding sumOfDiameters baselineSum allMeasured allDisappeared progressionFromNadir partialResponse targetAnswer afterVisit overallBy overallAnswer changeBetween changeOf
 judged-visits =
     record {
       day43 = record { target = refl; overall = refl; change = refl; after = refl };

@@ -6,7 +6,7 @@ use Prim.Native.Nat.{ℕ, _+_, _-_, _*_, _≤_, _<_}
 use native.Mathlib.Omega.{arith}
 use borrow.Author.Tests.{lt-ltb, le-ltb, eq-eqb, ne-eqb}
 use Rattle.response_rules.specs.Inputs.{Visit}
-use Rattle.response_rules.specs.SumOfDiameters.{measuredSum, allMeasured}
+use Rattle.response_rules.specs.SumOfDiameters.{sumOfDiameters, allMeasured}
 use Rattle.response_rules.specs.Change.{Tenths, none, signed, nearest, changeBetween, changeOf}
 use Rattle.response_rules.specs.declared.BaselineDisease.{BaselineDisease}
 
@@ -32,7 +32,7 @@ module _ (baseline sum t : ℕ) where
 -- from whether every target is measured and the sum of the measured
 abbrev Tells : BaselineDisease → Bool → ℕ → Tenths → Type 0
 Tells b m s a =
-    (v : Visit) → m ≡ allMeasured (b .count) (v .measured) → s ≡ measuredSum (v .measured) (v .sizes) → a ≡ changeOf b v
+    (v : Visit) → m ≡ allMeasured (b .count) (v .measured) → s ≡ sumOfDiameters (v .measured) (v .sizes) → a ≡ changeOf b v
 
 module _ (b : BaselineDisease) (m : Bool) (s : ℕ) where
   pub no-targets : b .count ≡ 0 → Tells b m s none
@@ -45,10 +45,10 @@ module _ (b : BaselineDisease) (m : Bool) (s : ℕ) where
     some-unmeasured n v me se = rw (ne-eqb (b .count) 0 h, ← me, n)
 
     module _ (n : not m ≡ false) where
-      pub no-baseline-sum : b .sum ≡ 0 → Tells b m s none
+      pub no-baseline-sum : b .baselinesum ≡ 0 → Tells b m s none
       unfolding changeOf
-      no-baseline-sum z v me se = rw (ne-eqb (b .count) 0 h, ← me, n, eq-eqb (b .sum) 0 z)
+      no-baseline-sum z v me se = rw (ne-eqb (b .count) 0 h, ← me, n, eq-eqb (b .baselinesum) 0 z)
 
-      pub between : (b .sum ≡ 0 → ⊥) → (a : Tenths) → a ≡ changeBetween (b .sum) s → Tells b m s a
+      pub between : (b .baselinesum ≡ 0 → ⊥) → (a : Tenths) → a ≡ changeBetween (b .baselinesum) s → Tells b m s a
       unfolding changeOf
-      between z a ae v me se = rw (ne-eqb (b .count) 0 h, ← me, n, ne-eqb (b .sum) 0 z, ← se) ae
+      between z a ae v me se = rw (ne-eqb (b .count) 0 h, ← me, n, ne-eqb (b .baselinesum) 0 z, ← se) ae

@@ -6,7 +6,7 @@ use Prim.Native.Nat.{ℕ, _≤_, _<_, min}
 use native.Mathlib.Omega.{arith}
 use borrow.Author.Tests.{not-false, not-true}
 use Rattle.response_rules.specs.Inputs.{Visit}
-use Rattle.response_rules.specs.SumOfDiameters.{measuredSum, allMeasured}
+use Rattle.response_rules.specs.SumOfDiameters.{sumOfDiameters, allMeasured}
 use Rattle.response_rules.specs.Nadir.{afterVisit}
 use Rattle.response_rules.specs.declared.BaselineDisease.{BaselineDisease}
 use Rattle.response_rules.specs.declared.Earlier.{Earlier}
@@ -16,7 +16,7 @@ withNadir n = record { nadir = n }
 
 -- what is left, from whether every target is measured and the sum of the measured
 abbrev Leaves : Earlier → Bool → ℕ → Earlier → Type 0
-Leaves e m s r = (b : BaselineDisease) (v : Visit) → m ≡ allMeasured (b .count) (v .measured) → s ≡ measuredSum (v .measured) (v .sizes) → r ≡ afterVisit b e v
+Leaves e m s r = (b : BaselineDisease) (v : Visit) → m ≡ allMeasured (b .count) (v .measured) → s ≡ sumOfDiameters (v .measured) (v .sizes) → r ≡ afterVisit b e v
 
 module _ (e : Earlier) (m : Bool) (s : ℕ) where
   pub incomplete : not m ≡ true → Leaves e m s e

@@ -11,17 +11,17 @@ use Rattle.laws.specs.Choice.{both, either}
 use Rattle.laws.proofs.Tests.{either-with-false}
 use Rattle.response_rules.specs.Words.{Word, CR, PR, SD, PD, NE, NA}
 use Rattle.response_rules.specs.Inputs.{Visit}
-use Rattle.response_rules.specs.SumOfDiameters.{measuredSum, allMeasured}
-use Rattle.response_rules.specs.TargetAnswer.{normalNode, gone, allGone, grown, shrunk, targetAnswer}
+use Rattle.response_rules.specs.SumOfDiameters.{sumOfDiameters, allMeasured}
+use Rattle.response_rules.specs.TargetAnswer.{normalShortAxis, disappeared, allDisappeared, progressionFromNadir, partialResponse, targetAnswer}
 use Rattle.response_rules.specs.declared.BaselineDisease.{BaselineDisease}
 use Rattle.response_rules.specs.declared.Earlier.{Earlier}
 
 -- a target that is normal or gone, as the code tests it
-pub gone-as-tested : (node : Bool) (size : ℕ) → either (eqb size 0) (both node (leb size normalNode)) ≡ gone node size
+pub gone-as-tested : (node : Bool) (size : ℕ) → either (eqb size 0) (both node (leb size normalShortAxis)) ≡ disappeared node size
 gone-as-tested true size = go (eqb size 0) refl
   where
-    go : (z : Bool) → eqb size 0 ≡ z → either z (leb size normalNode) ≡ leb size normalNode
-    go true q = let z = eqb-true size 0 q in sym (le-leb size normalNode (omega arith))
+    go : (z : Bool) → eqb size 0 ≡ z → either z (leb size normalShortAxis) ≡ leb size normalShortAxis
+    go true q = let z = eqb-true size 0 q in sym (le-leb size normalShortAxis (omega arith))
     go false q = refl
 gone-as-tested false size = either-with-false (eqb size 0)
 
@@ -34,12 +34,12 @@ module _ (b : BaselineDisease) (e : Earlier) (measured : List Bool) (sizes : Lis
   unfolding targetAnswer
   no-targets h v ve ze = rw (eq-eqb (b .count) 0 h)
 
-  module _ (h : b .count ≡ 0 → ⊥) (m : Bool) (me : m ≡ allMeasured (b .count) measured) (g : Bool) (ge : g ≡ allGone (b .count) (b .nodes) sizes) where
+  module _ (h : b .count ≡ 0 → ⊥) (m : Bool) (me : m ≡ allMeasured (b .count) measured) (g : Bool) (ge : g ≡ allDisappeared (b .count) (b .nodes) sizes) where
     pub complete : both m g ≡ true → Answers b e measured sizes CR
     unfolding targetAnswer
     complete q v ve ze = rw (ne-eqb (b .count) 0 h, ← ve, ← ze, ← me, ← ge, q)
 
-    module _ (q : both m g ≡ false) (s : ℕ) (se : s ≡ measuredSum measured sizes) (w : Bool) (we : w ≡ grown (e .nadir) s) where
+    module _ (q : both m g ≡ false) (s : ℕ) (se : s ≡ sumOfDiameters measured sizes) (w : Bool) (we : w ≡ progressionFromNadir (e .nadir) s) where
       pub progressive : w ≡ true → Answers b e measured sizes PD
       unfolding targetAnswer
       progressive p v ve ze = rw (ne-eqb (b .count) 0 h, ← ve, ← ze, ← me, ← ge, q, ← se, ← we, p)
@@ -49,7 +49,7 @@ module _ (b : BaselineDisease) (e : Earlier) (measured : List Bool) (sizes : Lis
         unfolding targetAnswer
         some-unmeasured n v ve ze = rw (ne-eqb (b .count) 0 h, ← ve, ← ze, ← me, ← ge, q, ← se, ← we, p, n)
 
-        module _ (n : not m ≡ false) (k : Bool) (ke : k ≡ shrunk (b .sum) s) where
+        module _ (n : not m ≡ false) (k : Bool) (ke : k ≡ partialResponse (b .baselinesum) s) where
           pub partly : k ≡ true → Answers b e measured sizes PR
           unfolding targetAnswer
           partly r v ve ze = rw (ne-eqb (b .count) 0 h, ← ve, ← ze, ← me, ← ge, q, ← se, ← we, p, n, ← ke, r)

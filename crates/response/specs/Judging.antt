@@ -8,7 +8,7 @@ use Rattle.records.specs.declared.BaselineEntry.{BaselineEntry}
 use Rattle.response_rules.specs.Words.{targetWord, overallWord}
 use Rattle.response_rules.specs.Inputs.{Visit, diseaseOf}
 use Rattle.response_rules.specs.TargetAnswer.{targetAnswer}
-use Rattle.response_rules.specs.Nadir.{leftBy, afterVisit}
+use Rattle.response_rules.specs.Nadir.{earlierOf, afterVisit}
 use Rattle.response_rules.specs.VisitAnswers.{overallAnswer}
 use Rattle.response_rules.specs.Change.{changeValues, changeOf}
 use Rattle.response_rules.specs.declared.BaselineDisease.{BaselineDisease}
@@ -18,7 +18,7 @@ use Rattle.response.specs.declared.VisitAnswer.{VisitAnswer}
 
 pub record JudgesBaseline (entry : BaselineEntry) (nodes : List Bool) (sizes : List ℕ) (a : BaselineAnswer) : Type 0 where
   pub disease : a .disease ≡ diseaseOf entry nodes sizes
-  pub after : a .after ≡ leftBy (diseaseOf entry nodes sizes) []
+  pub after : a .after ≡ earlierOf (diseaseOf entry nodes sizes) []
 
 pub record JudgesVisit (b : BaselineDisease) (e : Earlier) (v : Visit) (a : VisitAnswer) : Type 0 where
   pub target : targetWord (a .target) ≡ targetAnswer b e v

@@ -4,7 +4,7 @@ use response_rules::ChangeAnswer;
 ghost use mathlib.Core.Path.{_≡_};
 ghost use Prim.Native.Nat.{_*_, _≤_};
 ghost use Rattle.response_rules.specs.Inputs.{Visit};
-ghost use Rattle.response_rules.specs.SumOfDiameters.{measuredSum, allMeasured};
+ghost use Rattle.response_rules.specs.SumOfDiameters.{sumOfDiameters, allMeasured};
 ghost use Rattle.response_rules.specs.Change.{nearest, changeValues, changeBetween, changeOf};
 
 // A part of the baseline sum in tenths of a percent.
@@ -36,7 +36,7 @@ pub(crate) fn change_from_baseline(
     complete: bool,
     sum: u32,
 ) -> ChangeAnswer
-    ensures { λ r. ⌜ ((v : Visit) → complete ≡ allMeasured (baseline .count) (v .measured) → sum ≡ measuredSum (v .measured) (v .sizes) → changeValues r ≡ changeOf baseline v) ⌝ }
+    ensures { λ r. ⌜ ((v : Visit) → complete ≡ allMeasured (baseline .count) (v .measured) → sum ≡ sumOfDiameters (v .measured) (v .sizes) → changeValues r ≡ changeOf baseline v) ⌝ }
 {
     if baseline.count == 0 {
         return ChangeAnswer::Absent;
@@ -44,8 +44,8 @@ pub(crate) fn change_from_baseline(
     if !complete {
         return ChangeAnswer::Absent;
     }
-    if baseline.sum == 0 {
+    if baseline.baselinesum == 0 {
         return ChangeAnswer::Absent;
     }
-    change_between(baseline.sum, sum)
+    change_between(baseline.baselinesum, sum)
 }

@@ -37,7 +37,7 @@ pub fn judge_baseline(entry: BaselineEntry, nodes: [bool; 5], sizes: [u16; 5]) -
         assessed: entry.assessed,
         count: entry.count,
         nodes: nodes,
-        sum: sum,
+        baselinesum: sum,
     };
     BaselineAnswer {
         disease: disease,
@@ -55,7 +55,7 @@ pub fn judge_visit(
     ensures { λ r. ⌜ JudgesVisit baseline earlier (visitOf entry measured sizes) r ⌝ }
 {
     let status = entry.status;
-    let sum = sums::measured_sum(measured, sizes);
+    let sum = sums::sum_of_diameters(measured, sizes);
     let complete = sums::all_measured(baseline.count, measured);
     let target = targets::target_answer(baseline, earlier, measured, sizes);
     let overall = grid::overall_answer(baseline.assessed, entry.newlesion, target, status);

@@ -2,13 +2,13 @@
 use response_rules::Earlier;
 ghost use mathlib.Core.Path.{_≡_};
 ghost use Rattle.response_rules.specs.Inputs.{Visit};
-ghost use Rattle.response_rules.specs.SumOfDiameters.{measuredSum, allMeasured};
+ghost use Rattle.response_rules.specs.SumOfDiameters.{sumOfDiameters, allMeasured};
 ghost use Rattle.response_rules.specs.Nadir.{afterVisit};
 ghost use Rattle.response_rules.specs.declared.BaselineDisease.{BaselineDisease};
 
 // From whether every target is measured and the sum of the measured.
 pub(crate) fn after_visit(earlier: Earlier, complete: bool, sum: u32) -> Earlier
-    ensures { λ r. ⌜ ((b : BaselineDisease) (v : Visit) → complete ≡ allMeasured (b .count) (v .measured) → sum ≡ measuredSum (v .measured) (v .sizes) → r ≡ afterVisit b earlier v) ⌝ }
+    ensures { λ r. ⌜ ((b : BaselineDisease) (v : Visit) → complete ≡ allMeasured (b .count) (v .measured) → sum ≡ sumOfDiameters (v .measured) (v .sizes) → r ≡ afterVisit b earlier v) ⌝ }
 {
     if !complete {
         return earlier;

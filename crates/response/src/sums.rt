@@ -2,7 +2,7 @@
 ghost use mathlib.Core.Path.{_≡_};
 ghost use Prim.Native.Nat.{_≤_};
 ghost use Rattle.laws.specs.Choice.{pick};
-ghost use Rattle.response_rules.specs.SumOfDiameters.{measuredSum, baselineSum, allMeasured};
+ghost use Rattle.response_rules.specs.SumOfDiameters.{sumOfDiameters, baselineSum, allMeasured};
 
 fn size_if(marked: bool, size: u16) -> u32
     ensures { λ r. ⌜ (r ≡ pick marked size 0) × (r ≤ 65535) ⌝ }
@@ -10,8 +10,8 @@ fn size_if(marked: bool, size: u16) -> u32
     if marked { size as u32 } else { 0 }
 }
 
-pub(crate) fn measured_sum(measured: [bool; 5], sizes: [u16; 5]) -> u32
-    ensures { λ r. ⌜ r ≡ measuredSum measured sizes ⌝ }
+pub(crate) fn sum_of_diameters(measured: [bool; 5], sizes: [u16; 5]) -> u32
+    ensures { λ r. ⌜ r ≡ sumOfDiameters measured sizes ⌝ }
 {
     size_if(measured[0], sizes[0])
         + size_if(measured[1], sizes[1])

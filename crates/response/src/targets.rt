@@ -1,52 +1,53 @@
 // The target answer: six rules, the first that applies.
 use super::sums::all_measured;
-use super::sums::measured_sum;
+use super::sums::sum_of_diameters;
 use response_rules::BaselineDisease;
 use response_rules::Earlier;
 use response_rules::Target;
 ghost use mathlib.Core.Path.{_≡_};
 ghost use Rattle.response_rules.specs.Words.{targetWord};
 ghost use Rattle.response_rules.specs.Inputs.{Visit};
-ghost use Rattle.response_rules.specs.TargetAnswer.{gone, allGone, grown, shrunk, targetAnswer};
+ghost use Rattle.response_rules.specs.TargetAnswer.{disappeared, allDisappeared, progressionFromNadir, partialResponse, targetAnswer};
 
 // The short axis in millimetres up to which a node is normal.
-const NORMAL_NODE: u16 = 9;
+const NORMAL_SHORT_AXIS: u16 = 9;
 
 // Growth that is progression: millimetres above the nadir, and fifths of it.
-const GROWN_BY: u64 = 5;
+const PROGRESSION_INCREASE: u64 = 5;
 
-const GROWN_TO_FIFTHS: u64 = 6;
+const PROGRESSION_FIFTHS: u64 = 6;
 
 // A partial response: tenths of the baseline sum, which is 30 % less.
-const PARTIAL_TENTHS: u64 = 7;
+const PARTIAL_RESPONSE_TENTHS: u64 = 7;
 
 // A node is normal, any other target gone.
-fn is_gone(node: bool, size: u16) -> bool
-    ensures { λ r. ⌜ r ≡ gone node size ⌝ }
+fn has_disappeared(node: bool, size: u16) -> bool
+    ensures { λ r. ⌜ r ≡ disappeared node size ⌝ }
 {
-    (size == 0) | (node & (size <= NORMAL_NODE))
+    (size == 0) | (node & (size <= NORMAL_SHORT_AXIS))
 }
 
-fn all_gone(count: u8, nodes: [bool; 5], sizes: [u16; 5]) -> bool
-    ensures { λ r. ⌜ r ≡ allGone count nodes sizes ⌝ }
+fn all_disappeared(count: u8, nodes: [bool; 5], sizes: [u16; 5]) -> bool
+    ensures { λ r. ⌜ r ≡ allDisappeared count nodes sizes ⌝ }
 {
-    (count <= 0 || is_gone(nodes[0], sizes[0]))
-        && ((count <= 1 || is_gone(nodes[1], sizes[1]))
-            && ((count <= 2 || is_gone(nodes[2], sizes[2]))
-                && ((count <= 3 || is_gone(nodes[3], sizes[3]))
-                    && (count <= 4 || is_gone(nodes[4], sizes[4])))))
+    (count <= 0 || has_disappeared(nodes[0], sizes[0]))
+        && ((count <= 1 || has_disappeared(nodes[1], sizes[1]))
+            && ((count <= 2 || has_disappeared(nodes[2], sizes[2]))
+                && ((count <= 3 || has_disappeared(nodes[3], sizes[3]))
+                    && (count <= 4 || has_disappeared(nodes[4], sizes[4])))))
 }
 
-fn has_grown(nadir: u32, sum: u32) -> bool
-    ensures { λ r. ⌜ r ≡ grown nadir sum ⌝ }
+fn progression_from_nadir(nadir: u32, sum: u32) -> bool
+    ensures { λ r. ⌜ r ≡ progressionFromNadir nadir sum ⌝ }
 {
-    nadir as u64 + GROWN_BY <= sum as u64 && GROWN_TO_FIFTHS * nadir as u64 <= 5 * sum as u64
+    nadir as u64 + PROGRESSION_INCREASE <= sum as u64
+        && PROGRESSION_FIFTHS * nadir as u64 <= 5 * sum as u64
 }
 
-fn has_shrunk(baseline: u32, sum: u32) -> bool
-    ensures { λ r. ⌜ r ≡ shrunk baseline sum ⌝ }
+fn partial_response(baseline: u32, sum: u32) -> bool
+    ensures { λ r. ⌜ r ≡ partialResponse baseline sum ⌝ }
 {
-    10 * sum as u64 <= PARTIAL_TENTHS * baseline as u64
+    10 * sum as u64 <= PARTIAL_RESPONSE_TENTHS * baseline as u64
 }
 
 pub(crate) fn target_answer(
@@ -61,18 +62,18 @@ pub(crate) fn target_answer(
         return Target::NA;
     }
     let nodes = baseline.nodes;
-    let sum = measured_sum(measured, sizes);
+    let sum = sum_of_diameters(measured, sizes);
     let complete = all_measured(baseline.count, measured);
-    if complete & all_gone(baseline.count, nodes, sizes) {
+    if complete & all_disappeared(baseline.count, nodes, sizes) {
         return Target::CR;
     }
-    if has_grown(earlier.nadir, sum) {
+    if progression_from_nadir(earlier.nadir, sum) {
         return Target::PD;
     }
     if !complete {
         return Target::NE;
     }
-    if has_shrunk(baseline.sum, sum) {
+    if partial_response(baseline.baselinesum, sum) {
         return Target::PR;
     }
     Target::SD

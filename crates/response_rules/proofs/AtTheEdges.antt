@@ -1,8 +1,8 @@
 -- Each example is computed by the definitions.
 -- Assumes nothing.
 use mathlib.Core.Path.{refl}
-use Rattle.response_rules.specs.SumOfDiameters.{measuredSum, baselineSum, allMeasured}
-use Rattle.response_rules.specs.TargetAnswer.{allGone, grown, shrunk, targetAnswer}
+use Rattle.response_rules.specs.SumOfDiameters.{sumOfDiameters, baselineSum, allMeasured}
+use Rattle.response_rules.specs.TargetAnswer.{allDisappeared, progressionFromNadir, partialResponse, targetAnswer}
 use Rattle.response_rules.specs.Nadir.{afterVisit, nadirOf}
 use Rattle.response_rules.specs.OverallAnswer.{overallBy}
 use Rattle.response_rules.specs.Change.{changeBetween, changeOf}
@@ -10,7 +10,7 @@ use Rattle.response_rules.specs.VisitAnswers.{overallAnswer}
 use Rattle.response_rules.specs.Examples.{Edges, OrdersAndPlaces, GridRows, OverallAlone, Nadirs, NadirsByTheTerm, WrongReadings, Printed, Changes, WordsOfCases}
 
 pub edges : Edges
-unfolding measuredSum baselineSum allMeasured allGone grown shrunk targetAnswer afterVisit
+unfolding sumOfDiameters baselineSum allMeasured allDisappeared progressionFromNadir partialResponse targetAnswer afterVisit
 edges =
     record {
       sum70 = refl;
@@ -25,7 +25,7 @@ edges =
     }
 
 pub orders-and-places : OrdersAndPlaces
-unfolding measuredSum baselineSum allMeasured allGone grown shrunk targetAnswer afterVisit
+unfolding sumOfDiameters baselineSum allMeasured allDisappeared progressionFromNadir partialResponse targetAnswer afterVisit
 orders-and-places =
     record {
       noTargets = refl;
@@ -46,11 +46,11 @@ unfolding overallBy
 grid-rows = record { overCR = refl; overNA = refl; overPR = refl; overSD = refl; overNE = refl }
 
 pub overall-alone : OverallAlone
-unfolding measuredSum baselineSum allMeasured allGone grown shrunk targetAnswer afterVisit overallBy overallAnswer
+unfolding sumOfDiameters baselineSum allMeasured allDisappeared progressionFromNadir partialResponse targetAnswer afterVisit overallBy overallAnswer
 overall-alone = record { newLesion = refl; nontargetPD = refl; withoutNontarget = refl; missing = refl; missingNewLesion = refl }
 
 pub nadirs : Nadirs
-unfolding measuredSum baselineSum allMeasured allGone grown shrunk targetAnswer afterVisit
+unfolding sumOfDiameters baselineSum allMeasured allDisappeared progressionFromNadir partialResponse targetAnswer afterVisit
 nadirs =
     record {
       leastOfAll = refl;
@@ -62,7 +62,7 @@ nadirs =
     }
 
 pub nadirs-by-the-term : NadirsByTheTerm
-unfolding measuredSum baselineSum allMeasured nadirOf
+unfolding sumOfDiameters baselineSum allMeasured nadirOf
 nadirs-by-the-term =
     record {
       noVisit = refl;
@@ -76,11 +76,11 @@ nadirs-by-the-term =
     }
 
 pub wrong-readings : WrongReadings
-unfolding measuredSum baselineSum allMeasured allGone grown shrunk targetAnswer afterVisit overallBy overallAnswer
+unfolding sumOfDiameters baselineSum allMeasured allDisappeared progressionFromNadir partialResponse targetAnswer afterVisit overallBy overallAnswer
 wrong-readings = record { grownFromNadir = refl; progressionFirst = refl; incompleteSum = refl; oneGone = refl }
 
 pub printed-visits : Printed
-unfolding measuredSum baselineSum allMeasured allGone grown shrunk targetAnswer afterVisit overallBy overallAnswer changeBetween changeOf
+unfolding sumOfDiameters baselineSum allMeasured allDisappeared progressionFromNadir partialResponse targetAnswer afterVisit overallBy overallAnswer changeBetween changeOf
 printed-visits =
     record {
       target43 = refl;
@@ -95,7 +95,7 @@ printed-visits =
     }
 
 pub changes : Changes
-unfolding measuredSum baselineSum allMeasured changeBetween changeOf
+unfolding sumOfDiameters baselineSum allMeasured changeBetween changeOf
 changes =
     record {
       oneTarget = refl;

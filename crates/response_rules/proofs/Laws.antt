@@ -10,22 +10,22 @@ use lib.Dec.{eqb}
 use Rattle.laws.specs.Choice.{pick}
 use Rattle.laws.proofs.Tests.{either-with-true}
 use Rattle.response_rules.specs.Words.{Word, PD, NE, statusWord}
-use Rattle.response_rules.specs.SumOfDiameters.{measuredSum, allMeasured}
+use Rattle.response_rules.specs.SumOfDiameters.{sumOfDiameters, allMeasured}
 use Rattle.response_rules.specs.Inputs.{Visit}
-use Rattle.response_rules.specs.Nadir.{completeSums, leastOf, nadirOf, leftBy, afterVisit}
+use Rattle.response_rules.specs.Nadir.{completeSums, leastOf, nadirOf, earlierOf, afterVisit}
 use Rattle.response_rules.specs.OverallAnswer.{isPD, overallBy}
 use Rattle.response_rules.specs.Change.{none, nearest, changeOf}
-use Rattle.response_rules.specs.VisitAnswers.{overallAnswer, visitTarget, visitOverall}
+use Rattle.response_rules.specs.VisitAnswers.{overallAnswer, targetAnswerAfter, overallAnswerAfter}
 use Rattle.response_rules.specs.Laws.{OverallLaws, NadirLaws, ChangeLaws}
 use Rattle.response_rules.specs.declared.BaselineDisease.{BaselineDisease}
 
 -- the overall answer of a visit, by what its parts are known to be
 overall-is : (b : BaselineDisease) (vs : List Visit) (v : Visit) (a n : Bool) (t s : Word) → b .assessed ≡ a → v .newLesion ≡ n →
-    visitTarget b vs v ≡ t → statusWord (v .status) ≡ s → visitOverall b vs v ≡ overallBy a n t s
+    targetAnswerAfter b vs v ≡ t → statusWord (v .status) ≡ s → overallAnswerAfter b vs v ≡ overallBy a n t s
 unfolding overallAnswer
 overall-is b vs v a n t s e f g h =
-    ap (λ (x : Bool). overallBy x (v .newLesion) (visitTarget b vs v) (statusWord (v .status))) e
-    ∙ ap (λ (x : Bool). overallBy a x (visitTarget b vs v) (statusWord (v .status))) f
+    ap (λ (x : Bool). overallBy x (v .newLesion) (targetAnswerAfter b vs v) (statusWord (v .status))) e
+    ∙ ap (λ (x : Bool). overallBy a x (targetAnswerAfter b vs v) (statusWord (v .status))) f
     ∙ ap (λ (x : Word). overallBy a n x (statusWord (v .status))) g
     ∙ ap (λ (x : Word). overallBy a n t x) h
 
@@ -49,29 +49,29 @@ pd-nontarget true t = refl
 pd-nontarget false t = rw (either-with-true (isPD t))
 
 module _ (b : BaselineDisease) (vs : List Visit) (v : Visit) where
-  missing : b .assessed ≡ false → visitOverall b vs v ≡ NE
+  missing : b .assessed ≡ false → overallAnswerAfter b vs v ≡ NE
   missing e = overall-is b vs v false _ _ _ e refl refl refl ∙ not-assessed _ _ _
 
-  new-lesion : b .assessed ≡ true → v .newLesion ≡ true → visitOverall b vs v ≡ PD
+  new-lesion : b .assessed ≡ true → v .newLesion ≡ true → overallAnswerAfter b vs v ≡ PD
   new-lesion e n = overall-is b vs v true true _ _ e n refl refl ∙ newly-seen _ _
 
-  target-pd : b .assessed ≡ true → visitTarget b vs v ≡ PD → visitOverall b vs v ≡ PD
+  target-pd : b .assessed ≡ true → targetAnswerAfter b vs v ≡ PD → overallAnswerAfter b vs v ≡ PD
   target-pd e t = overall-is b vs v true _ PD _ e refl t refl ∙ pd-target _ _
 
-  nontarget-pd : b .assessed ≡ true → statusWord (v .status) ≡ PD → visitOverall b vs v ≡ PD
+  nontarget-pd : b .assessed ≡ true → statusWord (v .status) ≡ PD → overallAnswerAfter b vs v ≡ PD
   nontarget-pd e s = overall-is b vs v true _ _ PD e refl refl s ∙ pd-nontarget _ _
 
 pub overall-laws : OverallLaws
 overall-laws = record { missing = missing; newLesion = new-lesion; targetPD = target-pd; nontargetPD = nontarget-pd }
 
 -- one visit more by whether every target was measured
-nadir-left : (b : BaselineDisease) (vs : List Visit) → leftBy b vs .nadir ≡ nadirOf b vs
+nadir-left : (b : BaselineDisease) (vs : List Visit) → earlierOf b vs .nadir ≡ nadirOf b vs
 unfolding nadirOf afterVisit
 nadir-left b [] = refl
 nadir-left b (v ∷ vs) =
-    go (allMeasured (b .count) (v .measured)) (measuredSum (v .measured) (v .sizes)) (leftBy b vs .nadir) (completeSums (b .count) vs) (nadir-left b vs)
+    go (allMeasured (b .count) (v .measured)) (sumOfDiameters (v .measured) (v .sizes)) (earlierOf b vs .nadir) (completeSums (b .count) vs) (nadir-left b vs)
   where
-    go : (m : Bool) (s n : ℕ) (ss : List ℕ) → n ≡ leastOf (b .sum) ss → pick m (min s n) n ≡ leastOf (b .sum) (pick m (s ∷ ss) ss)
+    go : (m : Bool) (s n : ℕ) (ss : List ℕ) → n ≡ leastOf (b .baselinesum) ss → pick m (min s n) n ≡ leastOf (b .baselinesum) (pick m (s ∷ ss) ss)
     go true s n ss e = ap (min s) e
     go false s n ss e = e
 
@@ -88,7 +88,7 @@ least-turned : (count n : ℕ) (vs ws : List Visit) →
 least-turned count n [] ws = refl
 least-turned count n (v ∷ vs) ws =
     least-turned count n vs (v ∷ ws)
-    ∙ go (allMeasured count (v .measured)) (measuredSum (v .measured) (v .sizes)) (completeSums count ws) (completeSums count vs)
+    ∙ go (allMeasured count (v .measured)) (sumOfDiameters (v .measured) (v .sizes)) (completeSums count ws) (completeSums count vs)
   where
     go : (m : Bool) (s : ℕ) (ms ss : List ℕ) → leastOf (leastOf n (pick m (s ∷ ms) ms)) ss ≡ leastOf (leastOf n ms) (pick m (s ∷ ss) ss)
     go true s ms ss = least-moved s (leastOf n ms) ss
@@ -96,7 +96,7 @@ least-turned count n (v ∷ vs) ws =
 
 any-order : (b : BaselineDisease) (vs : List Visit) → nadirOf b (reverse vs) ≡ nadirOf b vs
 unfolding nadirOf
-any-order b vs = least-turned (b .count) (b .sum) vs []
+any-order b vs = least-turned (b .count) (b .baselinesum) vs []
 
 pub nadir-laws : NadirLaws
 nadir-laws = record { nadir = nadir-left; anyOrder = any-order }

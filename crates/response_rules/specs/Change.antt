@@ -5,7 +5,7 @@ use mathlib.Core.Bool.{Bool, true, false, not}
 use lib.Dec.{ltb, eqb}
 use Rattle.laws.specs.Choice.{both, either, pick}
 use Rattle.response_rules.specs.Inputs.{Visit}
-use Rattle.response_rules.specs.SumOfDiameters.{measuredSum, allMeasured}
+use Rattle.response_rules.specs.SumOfDiameters.{sumOfDiameters, allMeasured}
 use Rattle.response_rules.specs.declared.BaselineDisease.{BaselineDisease}
 use Rattle.response_rules.specs.declared.ChangeAnswer.{ChangeAnswer}
 use Rattle.response_rules.specs.declared.ChangeAnswer.the-variants.{Absent, Increase, Decrease}
@@ -41,5 +41,5 @@ changeBetween baseline sum = signed (both (ltb sum baseline) (ltb 0 (roundedChan
 -- at a visit with targets, all measured; else none, and none where a baseline sum is 0, as no accepted baseline with targets has it
 unfoldable pub changeOf : BaselineDisease → Visit → Tenths
 changeOf b v =
-    pick (either (eqb (b .count) 0) (either (not (allMeasured (b .count) (v .measured))) (eqb (b .sum) 0))) none
-    (changeBetween (b .sum) (measuredSum (v .measured) (v .sizes)))
+    pick (either (eqb (b .count) 0) (either (not (allMeasured (b .count) (v .measured))) (eqb (b .baselinesum) 0))) none
+    (changeBetween (b .baselinesum) (sumOfDiameters (v .measured) (v .sizes)))

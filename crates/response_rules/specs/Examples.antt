@@ -11,11 +11,11 @@ use Rattle.records.specs.declared.Status.{Status}
 use Rattle.records.specs.declared.Status.the-variants as S
 use Rattle.response_rules.specs.Words.{Word, CR, PR, SD, PD, NE, NA, NN, targetWord, statusWord, overallWord}
 use Rattle.response_rules.specs.Inputs.{Visit, diseaseOf}
-use Rattle.response_rules.specs.SumOfDiameters.{measuredSum, baselineSum}
+use Rattle.response_rules.specs.SumOfDiameters.{sumOfDiameters, baselineSum}
 use Rattle.response_rules.specs.Nadir.{afterVisit, nadirOf}
 use Rattle.response_rules.specs.OverallAnswer.{isPD, overallBy, evaluable}
 use Rattle.response_rules.specs.Change.{none, signed, changeValues, changeBetween, changeOf}
-use Rattle.response_rules.specs.VisitAnswers.{visitTarget, visitOverall}
+use Rattle.response_rules.specs.VisitAnswers.{targetAnswerAfter, overallAnswerAfter}
 use Rattle.response_rules.specs.declared.BaselineDisease.{BaselineDisease}
 use Rattle.response_rules.specs.declared.Earlier.{Earlier}
 use Rattle.response_rules.specs.declared.Target.the-variants as T
@@ -36,19 +36,19 @@ measuring sizes = record { status = S.NN; newLesion = false; measured = marked s
 
 pub record Edges : Type 0 where
   -- 1: baseline sum 100
-  pub sum70 : visitTarget (baselineWith [] (100 ∷ [])) [] (measuring (70 ∷ [])) ≡ PR
-  pub sum71 : visitTarget (baselineWith [] (100 ∷ [])) [] (measuring (71 ∷ [])) ≡ SD
+  pub sum70 : targetAnswerAfter (baselineWith [] (100 ∷ [])) [] (measuring (70 ∷ [])) ≡ PR
+  pub sum71 : targetAnswerAfter (baselineWith [] (100 ∷ [])) [] (measuring (71 ∷ [])) ≡ SD
   -- 2: an earlier visit left nadir 20
-  pub sum24 : isPD (visitTarget (baselineWith [] (100 ∷ [])) (measuring (20 ∷ []) ∷ []) (measuring (24 ∷ []))) ≡ false
-  pub sum25 : visitTarget (baselineWith [] (100 ∷ [])) (measuring (20 ∷ []) ∷ []) (measuring (25 ∷ [])) ≡ PD
+  pub sum24 : isPD (targetAnswerAfter (baselineWith [] (100 ∷ [])) (measuring (20 ∷ []) ∷ []) (measuring (24 ∷ []))) ≡ false
+  pub sum25 : targetAnswerAfter (baselineWith [] (100 ∷ [])) (measuring (20 ∷ []) ∷ []) (measuring (25 ∷ [])) ≡ PD
   -- 3: an earlier visit left nadir 50
-  pub sum59 : isPD (visitTarget (baselineWith [] (100 ∷ [])) (measuring (50 ∷ []) ∷ []) (measuring (59 ∷ []))) ≡ false
-  pub sum60 : visitTarget (baselineWith [] (100 ∷ [])) (measuring (50 ∷ []) ∷ []) (measuring (60 ∷ [])) ≡ PD
+  pub sum59 : isPD (targetAnswerAfter (baselineWith [] (100 ∷ [])) (measuring (50 ∷ []) ∷ []) (measuring (59 ∷ []))) ≡ false
+  pub sum60 : targetAnswerAfter (baselineWith [] (100 ∷ [])) (measuring (50 ∷ []) ∷ []) (measuring (60 ∷ [])) ≡ PD
   -- 4: a node and another target
-  pub node9 : visitTarget (baselineWith (true ∷ []) (20 ∷ 40 ∷ [])) [] (measuring (9 ∷ 0 ∷ [])) ≡ CR
-  pub node10 : visitTarget (baselineWith (true ∷ []) (20 ∷ 40 ∷ [])) [] (measuring (10 ∷ 0 ∷ [])) ≡ PR
+  pub node9 : targetAnswerAfter (baselineWith (true ∷ []) (20 ∷ 40 ∷ [])) [] (measuring (9 ∷ 0 ∷ [])) ≡ CR
+  pub node10 : targetAnswerAfter (baselineWith (true ∷ []) (20 ∷ 40 ∷ [])) [] (measuring (10 ∷ 0 ∷ [])) ≡ PR
   -- 14: two targets, nadir 50, one measured 62
-  pub oneMeasured : visitTarget (baselineWith [] (70 ∷ 30 ∷ [])) (measuring (40 ∷ 10 ∷ []) ∷ []) (measuring (62 ∷ [])) ≡ PD
+  pub oneMeasured : targetAnswerAfter (baselineWith [] (70 ∷ 30 ∷ [])) (measuring (40 ∷ 10 ∷ []) ∷ []) (measuring (62 ∷ [])) ≡ PD
 
 -- five targets of 20
 abbrev pub fiveTargets : BaselineDisease
@@ -56,23 +56,23 @@ fiveTargets = baselineWith [] (20 ∷ 20 ∷ 20 ∷ 20 ∷ 20 ∷ [])
 
 pub record OrdersAndPlaces : Type 0 where
   -- 1 before every other: no targets
-  pub noTargets : visitTarget (baselineWith [] []) [] (measuring []) ≡ NA
+  pub noTargets : targetAnswerAfter (baselineWith [] []) [] (measuring []) ≡ NA
   -- 2 before 3: a normal node that has grown by 9 from 0
-  pub completeFirst : visitTarget (baselineWith (true ∷ []) (20 ∷ [])) (measuring (0 ∷ []) ∷ []) (measuring (9 ∷ [])) ≡ CR
+  pub completeFirst : targetAnswerAfter (baselineWith (true ∷ []) (20 ∷ [])) (measuring (0 ∷ []) ∷ []) (measuring (9 ∷ [])) ≡ CR
   -- any other target is 0
-  pub otherOf1 : visitTarget (baselineWith [] (20 ∷ [])) [] (measuring (1 ∷ [])) ≡ PR
+  pub otherOf1 : targetAnswerAfter (baselineWith [] (20 ∷ [])) [] (measuring (1 ∷ [])) ≡ PR
   -- the fifth target is one of them: in both sums, measured, and gone
-  pub five70 : visitTarget fiveTargets [] (measuring (14 ∷ 14 ∷ 14 ∷ 14 ∷ 14 ∷ [])) ≡ PR
-  pub five71 : visitTarget fiveTargets [] (measuring (14 ∷ 14 ∷ 14 ∷ 14 ∷ 15 ∷ [])) ≡ SD
-  pub fifthUnmeasured : visitTarget fiveTargets [] (measuring (20 ∷ 20 ∷ 20 ∷ 20 ∷ [])) ≡ NE
-  pub fifthLeft : visitTarget fiveTargets [] (measuring (0 ∷ 0 ∷ 0 ∷ 0 ∷ 1 ∷ [])) ≡ PR
+  pub five70 : targetAnswerAfter fiveTargets [] (measuring (14 ∷ 14 ∷ 14 ∷ 14 ∷ 14 ∷ [])) ≡ PR
+  pub five71 : targetAnswerAfter fiveTargets [] (measuring (14 ∷ 14 ∷ 14 ∷ 14 ∷ 15 ∷ [])) ≡ SD
+  pub fifthUnmeasured : targetAnswerAfter fiveTargets [] (measuring (20 ∷ 20 ∷ 20 ∷ 20 ∷ [])) ≡ NE
+  pub fifthLeft : targetAnswerAfter fiveTargets [] (measuring (0 ∷ 0 ∷ 0 ∷ 0 ∷ 1 ∷ [])) ≡ PR
   -- no size beyond the count, and none that was not measured
   pub withinCount : baselineSum 1 (100 ∷ 50 ∷ []) ≡ 100
-  pub measuredAlone : measuredSum (true ∷ false ∷ []) (40 ∷ 30 ∷ []) ≡ 40
+  pub measuredAlone : sumOfDiameters (true ∷ false ∷ []) (40 ∷ 30 ∷ []) ≡ 40
   -- evaluable means other than NE
   pub evaluables : map evaluable (CR ∷ PR ∷ SD ∷ PD ∷ NE ∷ []) ≡ true ∷ true ∷ true ∷ true ∷ false ∷ []
   -- disease seen again after CR has no rule of its own
-  pub seenAgain : visitTarget (baselineWith [] (100 ∷ [])) (measuring (0 ∷ []) ∷ []) (measuring (4 ∷ [])) ≡ PR
+  pub seenAgain : targetAnswerAfter (baselineWith [] (100 ∷ [])) (measuring (0 ∷ []) ∷ []) (measuring (4 ∷ [])) ≡ PR
 
 -- a target row of the grid over the non-target answers CR, NN, NE and NA
 abbrev pub row : Word → List Word
@@ -94,11 +94,11 @@ unchanged s new = record { status = s; newLesion = new; measured = true ∷ []; 
 
 -- a new lesion or non-target PD alone gives PD; otherwise the grid; with baseline missing NE, new lesion or not
 pub record OverallAlone : Type 0 where
-  pub newLesion : visitOverall (oneOf100 true true) [] (unchanged S.NN true) ≡ PD
-  pub nontargetPD : visitOverall (oneOf100 true true) [] (unchanged S.PD false) ≡ PD
-  pub withoutNontarget : visitOverall (oneOf100 true false) [] (unchanged S.NA false) ≡ SD
-  pub missing : visitOverall (oneOf100 false false) [] (unchanged S.NA false) ≡ NE
-  pub missingNewLesion : visitOverall (oneOf100 false false) [] (unchanged S.NA true) ≡ NE
+  pub newLesion : overallAnswerAfter (oneOf100 true true) [] (unchanged S.NN true) ≡ PD
+  pub nontargetPD : overallAnswerAfter (oneOf100 true true) [] (unchanged S.PD false) ≡ PD
+  pub withoutNontarget : overallAnswerAfter (oneOf100 true false) [] (unchanged S.NA false) ≡ SD
+  pub missing : overallAnswerAfter (oneOf100 false false) [] (unchanged S.NA false) ≡ NE
+  pub missingNewLesion : overallAnswerAfter (oneOf100 false false) [] (unchanged S.NA true) ≡ NE
 
 -- two targets and nadir 60, and what is left after a visit by which were measured and their sizes
 abbrev pub after60 : List Bool → List ℕ → Earlier
@@ -108,11 +108,11 @@ after60 measured sizes =
 -- the least of the baseline sum and the sums of all earlier visits with every target measured: the earlier visits stand newest first
 pub record Nadirs : Type 0 where
   -- not the last sum, 55, but 50
-  pub leastOfAll : visitTarget (baselineWith [] (100 ∷ [])) (measuring (55 ∷ []) ∷ measuring (50 ∷ []) ∷ []) (measuring (60 ∷ [])) ≡ PD
+  pub leastOfAll : targetAnswerAfter (baselineWith [] (100 ∷ [])) (measuring (55 ∷ []) ∷ measuring (50 ∷ []) ∷ []) (measuring (60 ∷ [])) ≡ PD
   -- 50 of the visit before one with a target unmeasured
-  pub beforeIncomplete : visitTarget (baselineWith [] (60 ∷ 40 ∷ [])) (measuring (30 ∷ []) ∷ measuring (30 ∷ 20 ∷ []) ∷ []) (measuring (40 ∷ 20 ∷ [])) ≡ PD
+  pub beforeIncomplete : targetAnswerAfter (baselineWith [] (60 ∷ 40 ∷ [])) (measuring (30 ∷ []) ∷ measuring (30 ∷ 20 ∷ []) ∷ []) (measuring (40 ∷ 20 ∷ [])) ≡ PD
   -- the baseline sum, 50, and not 58 of the visit
-  pub baselineLeast : visitTarget (baselineWith [] (50 ∷ [])) (measuring (58 ∷ []) ∷ []) (measuring (60 ∷ [])) ≡ PD
+  pub baselineLeast : targetAnswerAfter (baselineWith [] (50 ∷ [])) (measuring (58 ∷ []) ∷ []) (measuring (60 ∷ [])) ≡ PD
   -- after one visit more: a lesser sum moves it; a larger one and one with a target unmeasured leave it
   pub lesser : after60 (true ∷ true ∷ []) (30 ∷ 20 ∷ []) ≡ record { nadir = 50 }
   pub larger : after60 (true ∷ true ∷ []) (40 ∷ 30 ∷ []) ≡ record { nadir = 60 }
@@ -138,13 +138,13 @@ pub record NadirsByTheTerm : Type 0 where
 
 pub record WrongReadings : Type 0 where
   -- growth against baseline alone: the sum is half the baseline's and three times the nadir
-  pub grownFromNadir : visitTarget (baselineWith [] (100 ∷ [])) (measuring (15 ∷ []) ∷ []) (measuring (50 ∷ [])) ≡ PD
+  pub grownFromNadir : targetAnswerAfter (baselineWith [] (100 ∷ [])) (measuring (15 ∷ []) ∷ []) (measuring (50 ∷ [])) ≡ PD
   -- PR before PD: the same sum is also at most 70 % of the baseline's
-  pub progressionFirst : visitOverall (baselineWith [] (100 ∷ [])) (measuring (15 ∷ []) ∷ []) (measuring (50 ∷ [])) ≡ PD
+  pub progressionFirst : overallAnswerAfter (baselineWith [] (100 ∷ [])) (measuring (15 ∷ []) ∷ []) (measuring (50 ∷ [])) ≡ PD
   -- an incomplete sum as nadir: one target of two was measured, with 10 mm
-  pub incompleteSum : visitTarget (baselineWith [] (60 ∷ 40 ∷ [])) (measuring (10 ∷ []) ∷ []) (measuring (40 ∷ 35 ∷ [])) ≡ SD
+  pub incompleteSum : targetAnswerAfter (baselineWith [] (60 ∷ 40 ∷ [])) (measuring (10 ∷ []) ∷ []) (measuring (40 ∷ 35 ∷ [])) ≡ SD
   -- CR with a target unmeasured
-  pub oneGone : visitTarget (baselineWith [] (60 ∷ 40 ∷ [])) [] (measuring (0 ∷ [])) ≡ NE
+  pub oneGone : targetAnswerAfter (baselineWith [] (60 ∷ 40 ∷ [])) [] (measuring (0 ∷ [])) ≡ NE
 
 -- the printed example: targets 40 and node 20; visits on days 43, 85 and 127
 abbrev pub printed : BaselineDisease
@@ -160,14 +160,14 @@ abbrev pub day127 : Visit
 day127 = measuring (0 ∷ 15 ∷ [])
 
 pub record Printed : Type 0 where
-  pub target43 : visitTarget printed [] day43 ≡ PR
-  pub overall43 : visitOverall printed [] day43 ≡ PR
+  pub target43 : targetAnswerAfter printed [] day43 ≡ PR
+  pub overall43 : overallAnswerAfter printed [] day43 ≡ PR
   pub change43 : changeOf printed day43 ≡ signed true 400
-  pub target85 : visitTarget printed (day43 ∷ []) day85 ≡ CR
-  pub overall85 : visitOverall printed (day43 ∷ []) day85 ≡ PR
+  pub target85 : targetAnswerAfter printed (day43 ∷ []) day85 ≡ CR
+  pub overall85 : overallAnswerAfter printed (day43 ∷ []) day85 ≡ PR
   pub change85 : changeOf printed day85 ≡ signed true 850
-  pub target127 : visitTarget printed (day85 ∷ day43 ∷ []) day127 ≡ PD
-  pub overall127 : visitOverall printed (day85 ∷ day43 ∷ []) day127 ≡ PD
+  pub target127 : targetAnswerAfter printed (day85 ∷ day43 ∷ []) day127 ≡ PD
+  pub overall127 : overallAnswerAfter printed (day85 ∷ day43 ∷ []) day127 ≡ PD
   pub change127 : changeOf printed day127 ≡ signed true 750
 
 -- at a visit with targets, all measured, in tenths of a percent, signed, nearest, halves away from zero; else none

@@ -11,7 +11,7 @@ use Rattle.response_rules.specs.declared.BaselineDisease.{BaselineDiseas
 
 -- what a baseline with these nodes and sizes leaves for judging visits
 abbrev pub diseaseOf : BaselineEntry → List Bool → List ℕ → BaselineDisease
-diseaseOf b nodes sizes = record { assessed = b .assessed; count = b .count; nodes = nodes; sum = baselineSum (b .count) sizes }
+diseaseOf b nodes sizes = record { assessed = b .assessed; count = b .count; nodes = nodes; baselinesum = baselineSum (b .count) sizes }
 
 -- what a visit has for the rules, as one value
 pub record Visit : Type 0 where

@@ -7,23 +7,23 @@ use Prim.Native.Nat.{ℕ, _+_, _*_, _≤_, _<_}
 use Rattle.response_rules.specs.Words.{PD, NE, statusWord}
 use Rattle.response_rules.specs.SumOfDiameters.{allMeasured}
 use Rattle.response_rules.specs.Inputs.{Visit}
-use Rattle.response_rules.specs.Nadir.{leftBy, nadirOf}
+use Rattle.response_rules.specs.Nadir.{earlierOf, nadirOf}
 use Rattle.response_rules.specs.Change.{none, nearest, changeOf}
-use Rattle.response_rules.specs.VisitAnswers.{visitTarget, visitOverall}
+use Rattle.response_rules.specs.VisitAnswers.{targetAnswerAfter, overallAnswerAfter}
 use Rattle.response_rules.specs.declared.BaselineDisease.{BaselineDisease}
 
 pub record OverallLaws : Type 0 where
   -- with baseline missing every overall answer is NE, new lesion or not
-  pub missing : (b : BaselineDisease) (vs : List Visit) (v : Visit) → b .assessed ≡ false → visitOverall b vs v ≡ NE
+  pub missing : (b : BaselineDisease) (vs : List Visit) (v : Visit) → b .assessed ≡ false → overallAnswerAfter b vs v ≡ NE
   -- a new lesion, target PD or non-target PD gives PD
-  pub newLesion : (b : BaselineDisease) (vs : List Visit) (v : Visit) → b .assessed ≡ true → v .newLesion ≡ true → visitOverall b vs v ≡ PD
-  pub targetPD : (b : BaselineDisease) (vs : List Visit) (v : Visit) → b .assessed ≡ true → visitTarget b vs v ≡ PD → visitOverall b vs v ≡ PD
+  pub newLesion : (b : BaselineDisease) (vs : List Visit) (v : Visit) → b .assessed ≡ true → v .newLesion ≡ true → overallAnswerAfter b vs v ≡ PD
+  pub targetPD : (b : BaselineDisease) (vs : List Visit) (v : Visit) → b .assessed ≡ true → targetAnswerAfter b vs v ≡ PD → overallAnswerAfter b vs v ≡ PD
   pub nontargetPD : (b : BaselineDisease) (vs : List Visit) (v : Visit) → b .assessed ≡ true → statusWord (v .status) ≡ PD →
-      visitOverall b vs v ≡ PD
+      overallAnswerAfter b vs v ≡ PD
 
 pub record NadirLaws : Type 0 where
   -- what earlier visits leave is the nadir of document 01
-  pub nadir : (b : BaselineDisease) (vs : List Visit) → leftBy b vs .nadir ≡ nadirOf b vs
+  pub nadir : (b : BaselineDisease) (vs : List Visit) → earlierOf b vs .nadir ≡ nadirOf b vs
   -- which does not depend on the order of the visits
   pub anyOrder : (b : BaselineDisease) (vs : List Visit) → nadirOf b (reverse vs) ≡ nadirOf b vs
 

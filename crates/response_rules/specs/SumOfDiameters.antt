@@ -15,8 +15,8 @@ sumWhere marked sizes zero = 0
 sumWhere marked sizes (suc n) = sumWhere marked sizes n + pick (marked n) (getD sizes n 0) 0
 
 -- the sum of the measured; a visit that fits its baseline has none beyond the count
-unfoldable pub measuredSum : List Bool → List ℕ → ℕ
-measuredSum measured sizes = sumWhere (λ (i : ℕ). getD measured i false) sizes mostTargets
+unfoldable pub sumOfDiameters : List Bool → List ℕ → ℕ
+sumOfDiameters measured sizes = sumWhere (λ (i : ℕ). getD measured i false) sizes mostTargets
 
 -- the baseline sum, by the target count and the sizes
 unfoldable pub baselineSum : ℕ → List ℕ → ℕ

@@ -5,7 +5,7 @@ use mathlib.Core.List.{List}
 use Rattle.response_rules.specs.Words.{Word, statusWord}
 use Rattle.response_rules.specs.Inputs.{Visit}
 use Rattle.response_rules.specs.TargetAnswer.{targetAnswer}
-use Rattle.response_rules.specs.Nadir.{leftBy}
+use Rattle.response_rules.specs.Nadir.{earlierOf}
 use Rattle.response_rules.specs.OverallAnswer.{overallBy}
 use Rattle.response_rules.specs.declared.BaselineDisease.{BaselineDisease}
 use Rattle.response_rules.specs.declared.Earlier.{Earlier}
@@ -13,8 +13,8 @@ use Rattle.response_rules.specs.declared.Earlier.{Earlier}
 unfoldable pub overallAnswer : BaselineDisease → Earlier → Visit → Word
 overallAnswer b earlier v = overallBy (b .assessed) (v .newLesion) (targetAnswer b earlier v) (statusWord (v .status))
 
-abbrev pub visitTarget : BaselineDisease → List Visit → Visit → Word
-visitTarget b earlier v = targetAnswer b (leftBy b earlier) v
+abbrev pub targetAnswerAfter : BaselineDisease → List Visit → Visit → Word
+targetAnswerAfter b earlier v = targetAnswer b (earlierOf b earlier) v
 
-abbrev pub visitOverall : BaselineDisease → List Visit → Visit → Word
-visitOverall b earlier v = overallAnswer b (leftBy b earlier) v
+abbrev pub overallAnswerAfter : BaselineDisease → List Visit → Visit → Word
+overallAnswerAfter b earlier v = overallAnswer b (earlierOf b earlier) v

@@ -8,8 +8,7 @@ pub struct BaselineDisease {
     // How many of the five targets there are.
     pub count: u8,
     pub nodes: [bool; 5],
-    // The baseline sum.
-    pub sum: u32,
+    pub baselinesum: u32,
 }
 
 // What earlier visits leave for judging the next one.

@@ -6,13 +6,13 @@ use mathlib.Core.List.{List, []}
 use Prim.Native.Nat.{ℕ}
 use Rattle.records.specs.declared.BaselineEntry.{BaselineEntry}
 use Rattle.outcome_rules.specs.StudyRecords.{Baseline}
-use Rattle.subject.specs.Summary.{eventOf, countedOf, summary}
-use Rattle.subject.specs.Opening.{firstSubject}
+use Rattle.subject.specs.Summary.{eventOf, countingOf, summary}
+use Rattle.subject.specs.Opening.{subjectOfBaseline}
 
 abbrev pub baselineOf : BaselineEntry → List Bool → List ℕ → Baseline
 baselineOf b nodes sizes = record { assessed = b .assessed; nontarget = b .nontarget; count = b .count; nodes = nodes; sizes = sizes }
 
 pub opening-follows : (b : BaselineEntry) (nodes : List Bool) (sizes : List ℕ) →
-    firstSubject b nodes sizes ≡ summary (b .date) (baselineOf b nodes sizes) []
-unfolding firstSubject summary eventOf countedOf
+    subjectOfBaseline b nodes sizes ≡ summary (b .date) (baselineOf b nodes sizes) []
+unfolding subjectOfBaseline summary eventOf countingOf
 opening-follows b nodes sizes = refl

@@ -14,11 +14,11 @@ use Rattle.response_rules.specs.OverallAnswer.{isPD, evaluable}
 use Rattle.outcome_rules.specs.declared.MaybeDay.the-variants as M
 use Rattle.outcome_rules.specs.Values.{Day, none, on, isRecorded, _orElse_, dayValue, bestWord}
 use Rattle.outcome_rules.specs.Course.{Judged, firstPD}
-use Rattle.outcome_rules.specs.BestResponse.{isCR, isResponse, isStableOrBetter, mayStandBetween, stableFrom, confirmDays, farApart, completeBefore, confirmedCR, responseBefore, confirmedResponse, stable, bestOf}
+use Rattle.outcome_rules.specs.BestResponse.{isCR, isResponse, isStableOrBetter, allowedBetweenCR, stableDiseaseFrom, confirmationDays, confirms, confirmsEarlierCR, confirmedCR, confirmsEarlierResponse, confirmedResponse, stableDisease, bestOf}
 use Rattle.outcome_rules.specs.Duration.{firstResponse}
-use Rattle.subject.specs.Days.{at, maybe, firstOf, farAfter}
-use Rattle.subject.specs.OneVisitMore.{eventAfter, bestFrom, betterOf, countedAfter}
-use Rattle.subject.specs.Summary.{crStart, eventOf, countedOf}
+use Rattle.subject.specs.Days.{at, maybe, firstRecorded, confirmedOn}
+use Rattle.subject.specs.OneVisitMore.{eventAfter, bestFrom, betterOf, countingAfter}
+use Rattle.subject.specs.Summary.{crStart, eventOf, countingOf}
 use Rattle.outcome_rules.proofs.PfsChanged.{Until}
 use Rattle.subject.proofs.CountingDaysFall.{Falling}
 
@@ -56,7 +56,7 @@ first-at-most d (j ∷ js) u = go (firstResponse js) (isResponse (j .answer)) (f
 
 start-at-most : (d : ℕ) (js : List Judged) → Until d js → AtMost (crStart js) d
 start-at-most d [] u = tt
-start-at-most d (j ∷ js) u = go (crStart js) (isCR (j .answer)) (mayStandBetween (j .answer)) (start-at-most d js (u .1))
+start-at-most d (j ∷ js) u = go (crStart js) (isCR (j .answer)) (allowedBetweenCR (j .answer)) (start-at-most d js (u .1))
   where
     go : (f : Day) (c m : Bool) → AtMost f d → AtMost (pick c (f orElse on (j .day)) (pick m f none)) d
     go none true m h = u .0
@@ -65,24 +65,24 @@ start-at-most d (j ∷ js) u = go (crStart js) (isCR (j .answer)) (mayStandBetwe
     go f false false h = tt
 
 -- of two days the earlier one decides
-earlier-decides : (s t d : ℕ) → s ≤ t → either (farApart t d) (farApart s d) ≡ farApart s d
-earlier-decides s t d h = go (farApart t d) refl
+earlier-decides : (s t d : ℕ) → s ≤ t → either (confirms t d) (confirms s d) ≡ confirms s d
+earlier-decides s t d h = go (confirms t d) refl
   where
-    go : (x : Bool) → farApart t d ≡ x → either x (farApart s d) ≡ farApart s d
-    go true e = let k = leb-true (t + confirmDays) d e in sym (le-leb (s + confirmDays) d (omega arith))
+    go : (x : Bool) → confirms t d ≡ x → either x (confirms s d) ≡ confirms s d
+    go true e = let k = leb-true (t + confirmationDays) d e in sym (le-leb (s + confirmationDays) d (omega arith))
     go false e = refl
 
-far-after-either : (f : Day) (t d : ℕ) → AtMost f t → either (farApart t d) (farAfter (maybe f) d) ≡ farAfter (maybe (f orElse on t)) d
-far-after-either none t d h = either-with-false (farApart t d)
+far-after-either : (f : Day) (t d : ℕ) → AtMost f t → either (confirms t d) (confirmedOn (maybe f) d) ≡ confirmedOn (maybe (f orElse on t)) d
+far-after-either none t d h = either-with-false (confirms t d)
 far-after-either (on s) t d h = earlier-decides s t d h
 
-complete-before : (d : ℕ) (js : List Judged) → Falling js → completeBefore d js ≡ farAfter (maybe (crStart js)) d
+complete-before : (d : ℕ) (js : List Judged) → Falling js → confirmsEarlierCR d js ≡ confirmedOn (maybe (crStart js)) d
 complete-before d [] s = refl
 complete-before d (j ∷ js) s = go (j .answer) (complete-before d js (s .1))
   where
-    go : (a : Word) → completeBefore d js ≡ farAfter (maybe (crStart js)) d →
-        either (both (isCR a) (farApart (j .day) d)) (both (mayStandBetween a) (completeBefore d js))
-        ≡ farAfter (maybe (pick (isCR a) (crStart js orElse on (j .day)) (pick (mayStandBetween a) (crStart js) none))) d
+    go : (a : Word) → confirmsEarlierCR d js ≡ confirmedOn (maybe (crStart js)) d →
+        either (both (isCR a) (confirms (j .day) d)) (both (allowedBetweenCR a) (confirmsEarlierCR d js))
+        ≡ confirmedOn (maybe (pick (isCR a) (crStart js orElse on (j .day)) (pick (allowedBetweenCR a) (crStart js) none))) d
     go CR ih = rw ih (far-after-either (crStart js) (j .day) d (start-at-most (j .day) js (s .0)))
     go NE ih = ih
     go PR ih = refl
@@ -91,27 +91,27 @@ complete-before d (j ∷ js) s = go (j .answer) (complete-before d js (s .1))
     go NA ih = refl
     go NN ih = refl
 
-response-before : (d : ℕ) (js : List Judged) → Falling js → responseBefore d js ≡ farAfter (maybe (firstResponse js)) d
+response-before : (d : ℕ) (js : List Judged) → Falling js → confirmsEarlierResponse d js ≡ confirmedOn (maybe (firstResponse js)) d
 response-before d [] s = refl
 response-before d (j ∷ js) s = go (isResponse (j .answer)) (response-before d js (s .1))
   where
-    same : (f : Day) → farAfter (maybe f) d ≡ farAfter (maybe (f orElse none)) d
+    same : (f : Day) → confirmedOn (maybe f) d ≡ confirmedOn (maybe (f orElse none)) d
     same none = refl
     same (on x) = refl
 
-    go : (r : Bool) → responseBefore d js ≡ farAfter (maybe (firstResponse js)) d →
-        either (both r (farApart (j .day) d)) (responseBefore d js) ≡ farAfter (maybe (firstResponse js orElse pick r (on (j .day)) none)) d
+    go : (r : Bool) → confirmsEarlierResponse d js ≡ confirmedOn (maybe (firstResponse js)) d →
+        either (both r (confirms (j .day) d)) (confirmsEarlierResponse d js) ≡ confirmedOn (maybe (firstResponse js orElse pick r (on (j .day)) none)) d
     go true ih = rw ih (far-after-either (firstResponse js) (j .day) d (first-at-most (j .day) js (s .0)))
     go false ih = ih ∙ same (firstResponse js)
 
 module _ (d : ℕ) where
-  first-follows : (f : Day) (r : Bool) → pick r (firstOf (maybe f) (at d)) (maybe f) ≡ maybe (f orElse pick r (on d) none)
+  first-follows : (f : Day) (r : Bool) → pick r (firstRecorded (maybe f) (at d)) (maybe f) ≡ maybe (f orElse pick r (on d) none)
   first-follows none true = refl
   first-follows none false = refl
   first-follows (on s) true = refl
   first-follows (on s) false = refl
 
-  start-follows : (f : Day) (c m : Bool) → pick c (firstOf (maybe f) (at d)) (pick m (maybe f) M.Absent) ≡ maybe (pick c (f orElse on d) (pick m f none))
+  start-follows : (f : Day) (c m : Bool) → pick c (firstRecorded (maybe f) (at d)) (pick m (maybe f) M.Absent) ≡ maybe (pick c (f orElse on d) (pick m f none))
   start-follows none true m = refl
   start-follows (on s) true m = refl
   start-follows f false true = refl
@@ -156,24 +156,24 @@ best-of-held false false true pd = refl
 best-of-held false false false true = refl
 best-of-held false false false false = refl
 
-pub counted-follows : (j : Judged) (js : List Judged) → Falling js → countedAfter (countedOf js) j ≡ countedOf (j ∷ js)
-unfolding countedAfter countedOf
+pub counted-follows : (j : Judged) (js : List Judged) → Falling js → countingAfter (countingOf js) j ≡ countingOf (j ∷ js)
+unfolding countingAfter countingOf
 counted-follows j js s =
     let first = first-follows (j .day) (firstResponse js) (isResponse (j .answer)) in
-    let start = start-follows (j .day) (crStart js) (isCR (j .answer)) (mayStandBetween (j .answer)) in
+    let start = start-follows (j .day) (crStart js) (isCR (j .answer)) (allowedBetweenCR (j .answer)) in
     let pd = progression-follows (j .day) (firstPD js) (isPD (j .answer)) in
     let complete = sym (complete-before (j .day) js s) in
     let response = sym (response-before (j .day) js s) in
-    let shown = better-shown (confirmedCR js) (confirmedResponse js) (stable js) (isRecorded (firstPD js)) (both (isCR (j .answer)) (farAfter (maybe (crStart js)) (j .day)))
-    (both (isResponse (j .answer)) (farAfter (maybe (firstResponse js)) (j .day))) (both (isStableOrBetter (j .answer)) (leb stableFrom (j .day))) (isPD (j .answer)) in
+    let shown = better-shown (confirmedCR js) (confirmedResponse js) (stableDisease js) (isRecorded (firstPD js)) (both (isCR (j .answer)) (confirmedOn (maybe (crStart js)) (j .day)))
+    (both (isResponse (j .answer)) (confirmedOn (maybe (firstResponse js)) (j .day))) (both (isStableOrBetter (j .answer)) (leb stableDiseaseFrom (j .day))) (isPD (j .answer)) in
     let follows : bestFrom
-    (bestOf (either (both (isCR (j .answer)) (farAfter (maybe (crStart js)) (j .day))) (confirmedCR js))
-    (either (both (isResponse (j .answer)) (farAfter (maybe (firstResponse js)) (j .day))) (confirmedResponse js)) (stable (j ∷ js))
+    (bestOf (either (both (isCR (j .answer)) (confirmedOn (maybe (crStart js)) (j .day))) (confirmedCR js))
+    (either (both (isResponse (j .answer)) (confirmedOn (maybe (firstResponse js)) (j .day))) (confirmedResponse js)) (stableDisease (j ∷ js))
     (either (isPD (j .answer)) (isRecorded (firstPD js))))
-    ≡ bestFrom (bestOf (confirmedCR (j ∷ js)) (confirmedResponse (j ∷ js)) (stable (j ∷ js)) (isRecorded (firstPD (j ∷ js)))) =
+    ≡ bestFrom (bestOf (confirmedCR (j ∷ js)) (confirmedResponse (j ∷ js)) (stableDisease (j ∷ js)) (isRecorded (firstPD (j ∷ js)))) =
     λ i.
     bestFrom
     (bestOf (either (both (isCR (j .answer)) (complete i)) (confirmedCR js)) (either (both (isResponse (j .answer)) (response i)) (confirmedResponse js))
-    (stable (j ∷ js)) (pd i)) in
+    (stableDisease (j ∷ js)) (pd i)) in
     let best = shown ∙ follows in
     λ i. record { firstresponse = first i; crstart = start i; best = best i }

@@ -3,12 +3,12 @@
 -- Assumes nothing.
 use mathlib.Core.Path.{refl}
 use Rattle.dates.specs.Calendar.{leapYear, daysInMonth, dateExists}
-use Rattle.records.specs.Refusals.{wrongSize, largeMeasured, setBeyond, sizedUnmeasured, withoutDisease, outsideLimits, notZero, refusalsOfRead}
+use Rattle.records.specs.Refusals.{sizeOutsideLimits, measuredOutsideLimits, notZeroBeyondCount, notZeroUnmeasured, withoutDisease, outsideLimits, notZero, refusalsOfRead}
 use Rattle.response_rules.specs.SumOfDiameters.{baselineSum}
 use Rattle.outcome_rules.specs.Adding.{refusalsOfOpening}
-use Rattle.subject.specs.Opening.{firstSubject, blank, openedSubject}
+use Rattle.subject.specs.Opening.{subjectOfBaseline, blankSubject, openedSubject}
 use Rattle.subject.specs.OpeningExamples.{OpenedAtTheEdges}
 
 pub opened-at-the-edges : OpenedAtTheEdges
-unfolding leapYear daysInMonth dateExists wrongSize largeMeasured setBeyond sizedUnmeasured withoutDisease outsideLimits notZero refusalsOfRead baselineSum refusalsOfOpening firstSubject blank openedSubject
+unfolding leapYear daysInMonth dateExists sizeOutsideLimits measuredOutsideLimits notZeroBeyondCount notZeroUnmeasured withoutDisease outsideLimits notZero refusalsOfRead baselineSum refusalsOfOpening subjectOfBaseline blankSubject openedSubject
 opened-at-the-edges = record { numbers = refl; printed = refl; withoutNontarget = refl; noDate = refl; visit = refl; therapy = refl; death = refl }

@@ -13,11 +13,11 @@ use Rattle.records.specs.declared.BaselineEntry.{BaselineEntry}
 use Rattle.records.specs.Refusals.{mostTargets, largestSize}
 use Rattle.response_rules.specs.SumOfDiameters.{sumWhere, baselineSum}
 use Rattle.subject.specs.Range.{enrolmentInRange, inRange}
-use Rattle.subject.specs.Opening.{firstSubject, blank}
+use Rattle.subject.specs.Opening.{subjectOfBaseline, blankSubject}
 use Rattle.subject.specs.Laws.{SubjectWithin}
 
-pub blank-outside : inRange blank ≡ false
-unfolding enrolmentInRange inRange blank dateExists
+pub blank-outside : inRange blankSubject ≡ false
+unfolding enrolmentInRange inRange blankSubject dateExists
 blank-outside = refl
 
 sum-most : (marked : ℕ → Bool) (sizes : List ℕ) (n : ℕ) → ((k : ℕ) → k < n → getD sizes k 0 ≤ largestSize) → sumWhere marked sizes n ≤ n * largestSize
@@ -30,18 +30,18 @@ sum-most marked sizes (suc n) small = go (marked n) (sum-most marked sizes n (λ
     go false h k = omega arith
 
 pub opening-within : (b : BaselineEntry) (nodes : List Bool) (sizes : List ℕ) → dateExists (b .date) ≡ true → b .count ≤ mostTargets →
-    ((k : ℕ) → k < mostTargets → getD sizes k 0 ≤ largestSize) → SubjectWithin (firstSubject b nodes sizes)
-unfolding firstSubject baselineSum
+    ((k : ℕ) → k < mostTargets → getD sizes k 0 ≤ largestSize) → SubjectWithin (subjectOfBaseline b nodes sizes)
+unfolding subjectOfBaseline baselineSum
 opening-within b nodes sizes date count small =
     let sum = sum-most (λ (i : ℕ). ltb i (b .count)) sizes mostTargets small in
     record {
-      enrolment = record { randomisation = date; count = count; sum = sum };
+      enrolment = record { randomisation = date; count = count; baselinesum = sum };
       followup =
           record {
             nadir = sum;
             latestday = (omega arith, omega arith);
             deathday = tt;
             event = record { lastvisit = (omega arith, omega arith); progression = tt; lastevaluable = tt };
-            counted = record { firstresponse = tt; crstart = tt };
+            counting = record { firstresponse = tt; crstart = tt };
           };
     }

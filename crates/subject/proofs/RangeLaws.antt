@@ -14,16 +14,16 @@ use Rattle.outcome_rules.specs.declared.MaybeDay.{MaybeDay}
 use Rattle.outcome_rules.specs.declared.MaybeDay.the-variants as M
 use Rattle.outcome_rules.specs.Values.{isRecorded, dayValue}
 use Rattle.outcome_rules.specs.Course.{Judged}
-use Rattle.outcome_rules.specs.BestResponse.{isCR, isResponse, mayStandBetween}
+use Rattle.outcome_rules.specs.BestResponse.{isCR, isResponse, allowedBetweenCR}
 use Rattle.subject.specs.declared.EventDays.{EventDays}
 use Rattle.subject.specs.declared.CountingVisits.{CountingVisits}
 use Rattle.subject.specs.declared.Enrolment.{Enrolment}
 use Rattle.subject.specs.declared.FollowUp.{FollowUp}
 use Rattle.subject.specs.declared.Subject.{Subject}
 use Rattle.subject.specs.Range.{firstDay, dayInRange, maybeInRange, eventInRange, largestSum, enrolmentInRange, followUpInRange, inRange}
-use Rattle.subject.specs.Days.{at, firstOf}
-use Rattle.subject.specs.OneVisitMore.{eventAfter, countedAfter}
-use Rattle.subject.specs.Laws.{Within, AbsentOrWithin, EventWithin, CountedWithin, EnrolmentWithin, FollowUpWithin, SubjectWithin, RangeLaws}
+use Rattle.subject.specs.Days.{at, firstRecorded}
+use Rattle.subject.specs.OneVisitMore.{eventAfter, countingAfter}
+use Rattle.subject.specs.Laws.{Within, AbsentOrWithin, EventWithin, CountingWithin, EnrolmentWithin, FollowUpWithin, SubjectWithin, RangeLaws}
 
 -- ---- what 12 judges
 
@@ -46,7 +46,7 @@ unfolding enrolmentInRange
 enrolment-within e h =
     let date = both-true (dateExists (e .randomisation)) _ h in
     let count = both-true (leb (e .disease .count) mostTargets) _ (date .1) in
-    record { randomisation = date .0; count = leb-true (e .disease .count) mostTargets (count .0); sum = leb-true (e .disease .sum) largestSum (count .1) }
+    record { randomisation = date .0; count = leb-true (e .disease .count) mostTargets (count .0); baselinesum = leb-true (e .disease .baselinesum) largestSum (count .1) }
 
 pub follow-up-within : (f : FollowUp) → followUpInRange f ≡ true → FollowUpWithin f
 unfolding followUpInRange
@@ -57,7 +57,7 @@ follow-up-within f e =
     let days = both-true (eventInRange (f .event)) _ (death .1) in
     let previous = both-true (dayInRange (f .event .lastvisit .0)) _ (days .0) in
     let rest = both-true (maybeInRange (f .event .progression)) _ (previous .1) in
-    let counted = both-true (maybeInRange (f .counted .firstresponse)) _ (days .1) in
+    let counting = both-true (maybeInRange (f .counting .firstresponse)) _ (days .1) in
     record {
       nadir = leb-true (f .earlier .nadir) largestSum (nadir .0);
       latestday = within (f .latestday .0) (latest .0);
@@ -68,7 +68,7 @@ follow-up-within f e =
             progression = absent-or-within (f .event .progression) (rest .0);
             lastevaluable = absent-or-within (f .event .lastevaluable) (rest .1);
           };
-      counted = record { firstresponse = absent-or-within (f .counted .firstresponse) (counted .0); crstart = absent-or-within (f .counted .crstart) (counted .1) };
+      counting = record { firstresponse = absent-or-within (f .counting .firstresponse) (counting .0); crstart = absent-or-within (f .counting .crstart) (counting .1) };
     }
 
 pub subject-within : (s : Subject) → inRange s ≡ true → SubjectWithin s
@@ -79,7 +79,7 @@ subject-within s e =
 
 enrolment-in-range : (e : Enrolment) → EnrolmentWithin e → enrolmentInRange e ≡ true
 unfolding enrolmentInRange
-enrolment-in-range e w = rw (w .randomisation, le-leb (e .disease .count) mostTargets (w .count), le-leb (e .disease .sum) largestSum (w .sum))
+enrolment-in-range e w = rw (w .randomisation, le-leb (e .disease .count) mostTargets (w .count), le-leb (e .disease .baselinesum) largestSum (w .baselinesum))
 
 follow-up-in-range : (f : FollowUp) → FollowUpWithin f → followUpInRange f ≡ true
 unfolding followUpInRange
@@ -91,8 +91,8 @@ follow-up-in-range f w =
       day-in-range (f .event .lastvisit .0) (w .event .lastvisit),
       maybe-in-range (f .event .progression) (w .event .progression),
       maybe-in-range (f .event .lastevaluable) (w .event .lastevaluable),
-      maybe-in-range (f .counted .firstresponse) (w .counted .firstresponse),
-      maybe-in-range (f .counted .crstart) (w .counted .crstart),
+      maybe-in-range (f .counting .firstresponse) (w .counting .firstresponse),
+      maybe-in-range (f .counting .crstart) (w .counting .crstart),
     )
 
 pub in-range : (s : Subject) → SubjectWithin s → inRange s ≡ true
@@ -105,7 +105,7 @@ range-laws = record { exactly = λ s. (subject-within s, in-range s) }
 -- ---- one visit more
 
 module _ (j : Judged) (w : Within (j .day)) where
-  first-within : (m : MaybeDay) → AbsentOrWithin m → AbsentOrWithin (firstOf m (at (j .day)))
+  first-within : (m : MaybeDay) → AbsentOrWithin m → AbsentOrWithin (firstRecorded m (at (j .day)))
   first-within M.Absent h = w
   first-within (M.On e) h = h
 
@@ -124,16 +124,16 @@ module _ (j : Judged) (w : Within (j .day)) where
       go false p false q true r = rw (p, q, r) (record { lastvisit = w; progression = tt; lastevaluable = w })
       go false p false q false r = rw (p, q, r) (record { lastvisit = w; progression = tt; lastevaluable = h .lastevaluable })
 
-  pub counted-within : (c : CountingVisits) → CountedWithin c → CountedWithin (countedAfter c j)
-  unfolding countedAfter
+  pub counted-within : (c : CountingVisits) → CountingWithin c → CountingWithin (countingAfter c j)
+  unfolding countingAfter
   counted-within c h =
-      let after = firstOf (c .crstart) (at (j .day)) in
-      let between = pick (mayStandBetween (j .answer)) (c .crstart) M.Absent in
+      let after = firstRecorded (c .crstart) (at (j .day)) in
+      let between = pick (allowedBetweenCR (j .answer)) (c .crstart) M.Absent in
       record {
         firstresponse =
-            pick-within (isResponse (j .answer)) (firstOf (c .firstresponse) (at (j .day))) (c .firstresponse) (first-within (c .firstresponse) (h .firstresponse))
+            pick-within (isResponse (j .answer)) (firstRecorded (c .firstresponse) (at (j .day))) (c .firstresponse) (first-within (c .firstresponse) (h .firstresponse))
             (h .firstresponse);
         crstart =
             pick-within (isCR (j .answer)) after between (first-within (c .crstart) (h .crstart))
-            (pick-within (mayStandBetween (j .answer)) (c .crstart) M.Absent (h .crstart) tt);
+            (pick-within (allowedBetweenCR (j .answer)) (c .crstart) M.Absent (h .crstart) tt);
       }

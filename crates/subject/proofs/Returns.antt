@@ -17,25 +17,25 @@ use Rattle.outcome_rules.specs.declared.BestResponse.{BestResponse}
 use Rattle.outcome_rules.specs.declared.BestResponse.the-variants as B
 use Rattle.outcome_rules.specs.Values.{isRecorded, dayValue, bestWord}
 use Rattle.outcome_rules.specs.Course.{Judged, judgedValues}
-use Rattle.outcome_rules.specs.BestResponse.{confirmDays, stableFrom, bestOf}
+use Rattle.outcome_rules.specs.BestResponse.{confirmationDays, stableDiseaseFrom, bestOf}
 use Rattle.subject.specs.declared.EventDays.{EventDays}
 use Rattle.subject.specs.declared.CountingVisits.{CountingVisits}
 use Rattle.subject.specs.declared.Enrolment.{Enrolment}
 use Rattle.subject.specs.declared.FollowUp.{FollowUp}
-use Rattle.subject.specs.Range.{firstDay, largestSum, dayInRange, maybeInRange, eventInRange, countedInRange, enrolmentInRange, followUpInRange}
-use Rattle.subject.specs.Days.{firstOf, farAfter}
-use Rattle.subject.specs.OneVisitMore.{evaluableOn, eventAfter, bestFrom, betterOf, shownBy, firstAfter, startAfter, countedAfter}
+use Rattle.subject.specs.Range.{firstDay, largestSum, dayInRange, maybeInRange, eventInRange, countingInRange, enrolmentInRange, followUpInRange}
+use Rattle.subject.specs.Days.{firstRecorded, confirmedOn}
+use Rattle.subject.specs.OneVisitMore.{evaluableOn, eventAfter, bestFrom, betterOf, bestShown, firstResponseAfter, crStartAfter, countingAfter}
 
 -- ---- days that may be absent
 
 module _ (m : MaybeDay) (d : StudyDay) where
-  pub first-absent : m ≡ M.Absent → M.On d ≡ firstOf m d
+  pub first-absent : m ≡ M.Absent → M.On d ≡ firstRecorded m d
   first-absent q = rw q
 
-  pub first-recorded : (e : StudyDay) → m ≡ M.On e → m ≡ firstOf m d
+  pub first-recorded : (e : StudyDay) → m ≡ M.On e → m ≡ firstRecorded m d
   first-recorded e q = rw q
 
-  pub far-recorded : (e : StudyDay) → m ≡ M.On e → leb (e .0 + confirmDays) (d .0) ≡ farAfter m (d .0)
+  pub far-recorded : (e : StudyDay) → m ≡ M.On e → leb (e .0 + confirmationDays) (d .0) ≡ confirmedOn m (d .0)
   far-recorded e q = rw q
 
 -- ---- what 12 judges
@@ -69,7 +69,7 @@ module _ (e : Enrolment) (a : Bool) (p : a ≡ dateExists (e .randomisation)) wh
   unfolding enrolmentInRange
   many-targets h k = rw (← p, h, lt-leb (e .disease .count) mostTargets k)
 
-  pub by-sum : a ≡ true → e .disease .count ≤ mostTargets → leb (e .disease .sum) largestSum ≡ enrolmentInRange e
+  pub by-sum : a ≡ true → e .disease .count ≤ mostTargets → leb (e .disease .baselinesum) largestSum ≡ enrolmentInRange e
   unfolding enrolmentInRange
   by-sum h k = rw (← p, h, le-leb (e .disease .count) mostTargets k)
 
@@ -92,7 +92,7 @@ module _ (f : FollowUp) (n : f .earlier .nadir ≤ largestSum) (a : Bool) (p : a
       unfolding followUpInRange
       event-outside l = l ∙ rw (le-leb (f .earlier .nadir) largestSum n, ← p, h, ← q, k, ← r, l)
 
-      pub by-counted : (d : Bool) → c ≡ true → d ≡ countedInRange (f .counted) → d ≡ followUpInRange f
+      pub by-counted : (d : Bool) → c ≡ true → d ≡ countingInRange (f .counting) → d ≡ followUpInRange f
       unfolding followUpInRange
       by-counted d l s = rw (le-leb (f .earlier .nadir) largestSum n, ← p, h, ← q, k, ← r, l) s
 
@@ -140,29 +140,29 @@ best-there r w q = rw (← q) (go r)
     go B.NE = refl
 
 module _ (c : CountingVisits) (j : JudgedVisit) (r : BestResponse) where
-  module _ (y : Bool) (yq : y ≡ farAfter (c .firstresponse) (j .day .0)) where
-    pub shown-cr : (x : Bool) → j .answer ≡ O.CR → x ≡ farAfter (c .crstart) (j .day .0) → bestWord r ≡ bestOf x y (leb stableFrom (j .day .0)) false →
-        r ≡ bestFrom (shownBy c (judgedValues j))
-    shown-cr x q xq h = best-there r (shownBy c (judgedValues j)) (h ∙ rw (q, xq, yq))
+  module _ (y : Bool) (yq : y ≡ confirmedOn (c .firstresponse) (j .day .0)) where
+    pub shown-cr : (x : Bool) → j .answer ≡ O.CR → x ≡ confirmedOn (c .crstart) (j .day .0) → bestWord r ≡ bestOf x y (leb stableDiseaseFrom (j .day .0)) false →
+        r ≡ bestFrom (bestShown c (judgedValues j))
+    shown-cr x q xq h = best-there r (bestShown c (judgedValues j)) (h ∙ rw (q, xq, yq))
 
-    pub shown-pr : j .answer ≡ O.PR → bestWord r ≡ bestOf false y (leb stableFrom (j .day .0)) false → r ≡ bestFrom (shownBy c (judgedValues j))
-    shown-pr q h = best-there r (shownBy c (judgedValues j)) (h ∙ rw (q, yq))
+    pub shown-pr : j .answer ≡ O.PR → bestWord r ≡ bestOf false y (leb stableDiseaseFrom (j .day .0)) false → r ≡ bestFrom (bestShown c (judgedValues j))
+    shown-pr q h = best-there r (bestShown c (judgedValues j)) (h ∙ rw (q, yq))
 
-  pub shown-sd : j .answer ≡ O.SD → bestWord r ≡ bestOf false false (leb stableFrom (j .day .0)) false → r ≡ bestFrom (shownBy c (judgedValues j))
-  shown-sd q h = best-there r (shownBy c (judgedValues j)) (h ∙ rw q)
+  pub shown-sd : j .answer ≡ O.SD → bestWord r ≡ bestOf false false (leb stableDiseaseFrom (j .day .0)) false → r ≡ bestFrom (bestShown c (judgedValues j))
+  shown-sd q h = best-there r (bestShown c (judgedValues j)) (h ∙ rw q)
 
-module _ (m r : MaybeDay) (j : JudgedVisit) (v : r ≡ firstOf m (j .day)) where
-  pub first-cr : j .answer ≡ O.CR → r ≡ firstAfter m (judgedValues j)
+module _ (m r : MaybeDay) (j : JudgedVisit) (v : r ≡ firstRecorded m (j .day)) where
+  pub first-cr : j .answer ≡ O.CR → r ≡ firstResponseAfter m (judgedValues j)
   first-cr q = v ∙ rw q
 
-  pub first-pr : j .answer ≡ O.PR → r ≡ firstAfter m (judgedValues j)
+  pub first-pr : j .answer ≡ O.PR → r ≡ firstResponseAfter m (judgedValues j)
   first-pr q = v ∙ rw q
 
-  pub start-cr : j .answer ≡ O.CR → r ≡ startAfter m (judgedValues j)
+  pub start-cr : j .answer ≡ O.CR → r ≡ crStartAfter m (judgedValues j)
   start-cr q = v ∙ rw q
 
-pub counted-made : (c : CountingVisits) (j : Judged) (f s : MaybeDay) (shown best : BestResponse) → f ≡ firstAfter (c .firstresponse) j →
-    s ≡ startAfter (c .crstart) j → shown ≡ bestFrom (shownBy c j) → best ≡ betterOf (c .best) shown →
-    record { firstresponse = f; crstart = s; best = best } ≡ countedAfter c j
-unfolding countedAfter
+pub counted-made : (c : CountingVisits) (j : Judged) (f s : MaybeDay) (shown best : BestResponse) → f ≡ firstResponseAfter (c .firstresponse) j →
+    s ≡ crStartAfter (c .crstart) j → shown ≡ bestFrom (bestShown c j) → best ≡ betterOf (c .best) shown →
+    record { firstresponse = f; crstart = s; best = best } ≡ countingAfter c j
+unfolding countingAfter
 counted-made c j f s shown best fq sq wq bq = rw (fq, sq, bq, wq)

@@ -3,15 +3,15 @@
 -- Assumes nothing.
 use mathlib.Core.Path.{refl}
 use Rattle.dates.specs.Calendar.{leapYear, daysInMonth, dateExists}
-use Rattle.response_rules.specs.SumOfDiameters.{measuredSum, baselineSum, allMeasured}
-use Rattle.response_rules.specs.TargetAnswer.{allGone, grown, shrunk, targetAnswer}
+use Rattle.response_rules.specs.SumOfDiameters.{sumOfDiameters, baselineSum, allMeasured}
+use Rattle.response_rules.specs.TargetAnswer.{allDisappeared, progressionFromNadir, partialResponse, targetAnswer}
 use Rattle.response_rules.specs.Nadir.{afterVisit}
 use Rattle.response_rules.specs.OverallAnswer.{overallBy}
 use Rattle.response_rules.specs.VisitAnswers.{overallAnswer}
-use Rattle.outcome_rules.specs.Course.{answerAt}
+use Rattle.outcome_rules.specs.Course.{overallAt}
 use Rattle.subject.specs.Range.{enrolmentInRange, followUpInRange, inRange}
-use Rattle.subject.specs.OneVisitMore.{eventAfter, countedAfter}
-use Rattle.subject.specs.Summary.{eventOf, countedOf, summary}
+use Rattle.subject.specs.OneVisitMore.{eventAfter, countingAfter}
+use Rattle.subject.specs.Summary.{eventOf, countingOf, summary}
 use Rattle.subject.specs.HeldExamples.{RangeAtTheEdges, EventsAfter, CountsAfter, BestInOrder, StartsOfCR, EventsOfVisits, CountsOfVisits, HeldOfRecords}
 
 pub range-at-the-edges : RangeAtTheEdges
@@ -39,7 +39,7 @@ unfolding eventAfter
 events-after = record { sd43 = refl; ne85 = refl; pd127 = refl; sd169 = refl; pd169 = refl }
 
 pub counts-after : CountsAfter
-unfolding countedAfter
+unfolding countingAfter
 counts-after =
     record {
       cr43 = refl;
@@ -92,7 +92,7 @@ events-of-visits =
     }
 
 pub counts-of-visits : CountsOfVisits
-unfolding countedOf
+unfolding countingOf
 counts-of-visits =
     record {
       noVisit = refl;
@@ -106,15 +106,15 @@ counts-of-visits =
     }
 
 pub held-of-records : HeldOfRecords
-unfolding measuredSum baselineSum allMeasured allGone grown shrunk targetAnswer afterVisit overallBy overallAnswer answerAt eventOf countedOf summary
+unfolding sumOfDiameters baselineSum allMeasured allDisappeared progressionFromNadir partialResponse targetAnswer afterVisit overallBy overallAnswer overallAt eventOf countingOf summary
 held-of-records =
     record {
       opened = refl;
-      visited = refl;
+      afterVisit43 = refl;
       progressed = refl;
       complete = refl;
-      treated = refl;
-      treatedLast = refl;
+      afterTherapy = refl;
+      therapyLast = refl;
       dead = refl;
       deadAfterTherapy = refl;
       afterProgression = refl;

@@ -6,7 +6,7 @@ use Rattle.dates.specs.declared.StudyDay.{StudyDay}
 use Rattle.outcome_rules.specs.declared.MaybeDay.{MaybeDay}
 use Rattle.outcome_rules.specs.declared.MaybeDay.the-variants as M
 use Rattle.outcome_rules.specs.Values.{Day, none, on}
-use Rattle.outcome_rules.specs.BestResponse.{farApart}
+use Rattle.outcome_rules.specs.BestResponse.{confirms}
 
 abbrev pub at : ℕ → StudyDay
 at d = record { 0 = d }
@@ -15,11 +15,11 @@ abbrev pub maybe : Day → MaybeDay
 maybe none = M.Absent
 maybe (on d) = M.On (at d)
 
-abbrev pub firstOf : MaybeDay → StudyDay → MaybeDay
-firstOf M.Absent d = M.On d
-firstOf (M.On e) d = M.On e
+abbrev pub firstRecorded : MaybeDay → StudyDay → MaybeDay
+firstRecorded M.Absent d = M.On d
+firstRecorded (M.On e) d = M.On e
 
 -- 28 days or more after a day that is recorded
-abbrev pub farAfter : MaybeDay → ℕ → Bool
-farAfter M.Absent d = false
-farAfter (M.On e) d = farApart (e .0) d
+abbrev pub confirmedOn : MaybeDay → ℕ → Bool
+confirmedOn M.Absent d = false
+confirmedOn (M.On e) d = confirms (e .0) d

@@ -22,8 +22,8 @@ use Rattle.outcome_rules.specs.Course.{Judged}
 use Rattle.outcome_rules.specs.StarredExamples.{oneTarget, withNode, missing, visitOn, measuring, unmeasured}
 use Rattle.outcome_rules.specs.FurtherExamples.{visit43, visit85, visit127}
 use Rattle.subject.specs.Range.{inRange}
-use Rattle.subject.specs.OneVisitMore.{bestFrom, betterOf, eventAfter, countedAfter}
-use Rattle.subject.specs.Summary.{crStart, eventOf, countedOf, summary}
+use Rattle.subject.specs.OneVisitMore.{bestFrom, betterOf, eventAfter, countingAfter}
+use Rattle.subject.specs.Summary.{crStart, eventOf, countingOf, summary}
 use Rattle.subject.specs.declared.EventDays.{EventDays}
 use Rattle.subject.specs.declared.CountingVisits.{CountingVisits}
 use Rattle.subject.specs.declared.Subject.{Subject}
@@ -55,14 +55,14 @@ noCounts = counts M.Absent M.Absent B.NE
 
 -- what a baseline leaves, by assessed, target count and sum; the second target is a node
 abbrev pub disease : Bool → ℕ → ℕ → BaselineDisease
-disease assessed count sum = record { assessed = assessed; count = count; nodes = fivePlaces false (false ∷ true ∷ []); sum = sum }
+disease assessed count sum = record { assessed = assessed; count = count; nodes = fivePlaces false (false ∷ true ∷ []); baselinesum = sum }
 
 -- by randomisation date, non-target disease, what the baseline leaves, nadir, latest day, therapy, death, and what visits left
 abbrev pub subjectWith : Date → Bool → BaselineDisease → ℕ → ℕ → Bool → MaybeDay → EventDays → CountingVisits → Subject
-subjectWith randomisation nontarget baseline nadir latest treated dead event counted =
+subjectWith randomisation nontarget baseline nadir latest treated dead event counting =
     record {
       enrolment = record { randomisation = randomisation; nontarget = nontarget; disease = baseline };
-      followup = record { earlier = record { nadir = nadir }; latestday = day latest; treated = treated; deathday = dead; event = event; counted = counted };
+      followup = record { earlier = record { nadir = nadir }; latestday = day latest; therapyrecorded = treated; deathday = dead; event = event; counting = counting };
     }
 
 -- the subject of the printed example, by nadir, latest day, therapy, death, and what visits left
@@ -123,26 +123,26 @@ afterCR = counts (onDay 43) (onDay 43) B.SD
 
 -- one counting visit more: 28 days or more apart, with only CR or NE between two CR visits; SD from day 36 on
 pub record CountsAfter : Type 0 where
-  pub cr43 : countedAfter noCounts (seen 43 CR) ≡ afterCR
-  pub pr35 : countedAfter noCounts (seen 35 PR) ≡ counts (onDay 35) M.Absent B.NE
-  pub sd35 : countedAfter noCounts (seen 35 SD) ≡ noCounts
-  pub sd36 : countedAfter noCounts (seen 36 SD) ≡ counts M.Absent M.Absent B.SD
-  pub pd43 : countedAfter noCounts (seen 43 PD) ≡ counts M.Absent M.Absent B.PD
-  pub cr70 : countedAfter afterCR (seen 70 CR) ≡ afterCR
-  pub cr71 : countedAfter afterCR (seen 71 CR) ≡ counts (onDay 43) (onDay 43) B.CR
-  pub pr71 : countedAfter afterCR (seen 71 PR) ≡ counts (onDay 43) M.Absent B.PR
-  pub ne71 : countedAfter afterCR (seen 71 NE) ≡ afterCR
-  pub sd71 : countedAfter afterCR (seen 71 SD) ≡ counts (onDay 43) M.Absent B.SD
-  pub pd71 : countedAfter afterCR (seen 71 PD) ≡ counts (onDay 43) M.Absent B.SD
+  pub cr43 : countingAfter noCounts (seen 43 CR) ≡ afterCR
+  pub pr35 : countingAfter noCounts (seen 35 PR) ≡ counts (onDay 35) M.Absent B.NE
+  pub sd35 : countingAfter noCounts (seen 35 SD) ≡ noCounts
+  pub sd36 : countingAfter noCounts (seen 36 SD) ≡ counts M.Absent M.Absent B.SD
+  pub pd43 : countingAfter noCounts (seen 43 PD) ≡ counts M.Absent M.Absent B.PD
+  pub cr70 : countingAfter afterCR (seen 70 CR) ≡ afterCR
+  pub cr71 : countingAfter afterCR (seen 71 CR) ≡ counts (onDay 43) (onDay 43) B.CR
+  pub pr71 : countingAfter afterCR (seen 71 PR) ≡ counts (onDay 43) M.Absent B.PR
+  pub ne71 : countingAfter afterCR (seen 71 NE) ≡ afterCR
+  pub sd71 : countingAfter afterCR (seen 71 SD) ≡ counts (onDay 43) M.Absent B.SD
+  pub pd71 : countingAfter afterCR (seen 71 PD) ≡ counts (onDay 43) M.Absent B.SD
   -- behind a PR of day 43, a CR of day 71 starts a run of its own
-  pub crAfterPR : countedAfter (counts (onDay 43) M.Absent B.SD) (seen 71 CR)
+  pub crAfterPR : countingAfter (counts (onDay 43) M.Absent B.SD) (seen 71 CR)
       ≡ counts (onDay 43) (onDay 71) B.PR
   -- an NE leaves everything as it is: behind PR 43; PR 43 and CR 71; CR 43 and CR 71; PD 43
-  pub neAfterPR : countedAfter (counts (onDay 43) M.Absent B.SD) (seen 99 NE) ≡ counts (onDay 43) M.Absent B.SD
-  pub neAfterPRAndCR : countedAfter (counts (onDay 43) (onDay 71) B.PR) (seen 99 NE)
+  pub neAfterPR : countingAfter (counts (onDay 43) M.Absent B.SD) (seen 99 NE) ≡ counts (onDay 43) M.Absent B.SD
+  pub neAfterPRAndCR : countingAfter (counts (onDay 43) (onDay 71) B.PR) (seen 99 NE)
       ≡ counts (onDay 43) (onDay 71) B.PR
-  pub neAfterTwoCR : countedAfter (counts (onDay 43) (onDay 43) B.CR) (seen 99 NE) ≡ counts (onDay 43) (onDay 43) B.CR
-  pub neAfterPD : countedAfter (counts M.Absent M.Absent B.PD) (seen 99 NE) ≡ counts M.Absent M.Absent B.PD
+  pub neAfterTwoCR : countingAfter (counts (onDay 43) (onDay 43) B.CR) (seen 99 NE) ≡ counts (onDay 43) (onDay 43) B.CR
+  pub neAfterPD : countingAfter (counts M.Absent M.Absent B.PD) (seen 99 NE) ≡ counts M.Absent M.Absent B.PD
 
 -- the order of document 01: CR, PR, SD, PD, NE; the better of each with each, rows and columns in this order
 abbrev pub responses : List BestResponse
@@ -164,7 +164,7 @@ abbrev pub eventsOf : List Judged → EventDays
 eventsOf js = eventOf (reverse js)
 
 abbrev pub countsOf : List Judged → CountingVisits
-countsOf js = countedOf (reverse js)
+countsOf js = countingOf (reverse js)
 
 -- the first CR since which every visit was CR or NE
 pub record StartsOfCR : Type 0 where
@@ -208,26 +208,26 @@ heldAfter b rs = summary (ymd 2020 1 1) b (reverse rs)
 
 -- a subject with one target of 100 and no other disease, by nadir, latest day, therapy, death, and what visits left
 abbrev pub oneTargetWith : ℕ → ℕ → Bool → MaybeDay → EventDays → CountingVisits → Subject
-oneTargetWith = subjectWith (ymd 2020 1 1) false (record { assessed = true; count = 1; nodes = fivePlaces false []; sum = 100 })
+oneTargetWith = subjectWith (ymd 2020 1 1) false (record { assessed = true; count = 1; nodes = fivePlaces false []; baselinesum = 100 })
 
 -- a subject with baseline missing, by the same
 abbrev pub missingWith : ℕ → ℕ → Bool → MaybeDay → EventDays → CountingVisits → Subject
-missingWith = subjectWith (ymd 2020 1 1) false (record { assessed = false; count = 0; nodes = fivePlaces false []; sum = 0 })
+missingWith = subjectWith (ymd 2020 1 1) false (record { assessed = false; count = 0; nodes = fivePlaces false []; baselinesum = 0 })
 
 pub record HeldOfRecords : Type 0 where
   -- the printed example: after its baseline, its first visit, and its last
   pub opened : heldAfter withNode [] ≡ printedOpened
-  pub visited : heldAfter withNode (visit43 ∷ []) ≡ printedVisited
+  pub afterVisit43 : heldAfter withNode (visit43 ∷ []) ≡ printedVisited
   pub progressed : heldAfter withNode (visit43 ∷ visit85 ∷ visit127 ∷ [])
       ≡ printedWith 9 127 false M.Absent (events (onDay 127) 85 (onDay 85)) (counts (onDay 43) M.Absent B.PR)
   -- CR 43, NE 71, CR 99
   pub complete : heldAfter oneTarget (measuring 43 0 ∷ unmeasured 71 ∷ measuring 99 0 ∷ [])
       ≡ oneTargetWith 0 99 false M.Absent (events M.Absent 99 (onDay 99)) (counts (onDay 43) (onDay 43) B.CR)
   -- PR 43, therapy 50, CR 85: the visit behind the therapy moves the nadir, v and the last evaluable visit, and does not count
-  pub treated : heldAfter oneTarget (measuring 43 60 ∷ therapy 50 ∷ measuring 85 0 ∷ [])
+  pub afterTherapy : heldAfter oneTarget (measuring 43 60 ∷ therapy 50 ∷ measuring 85 0 ∷ [])
       ≡ oneTargetWith 0 85 true M.Absent (events M.Absent 85 (onDay 85)) (counts (onDay 43) M.Absent B.SD)
   -- a therapy behind a visit moves the latest day, and not v
-  pub treatedLast : heldAfter oneTarget (measuring 43 90 ∷ therapy 50 ∷ [])
+  pub therapyLast : heldAfter oneTarget (measuring 43 90 ∷ therapy 50 ∷ [])
       ≡ oneTargetWith 90 50 true M.Absent (events M.Absent 43 (onDay 43)) (counts M.Absent M.Absent B.SD)
   -- so does a death
   pub dead : heldAfter oneTarget (measuring 43 90 ∷ unmeasured 85 ∷ death 100 ∷ [])

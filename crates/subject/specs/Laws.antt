@@ -26,21 +26,21 @@ pub record EventWithin (e : EventDays) : Type 0 where
   pub progression : AbsentOrWithin (e .progression)
   pub lastevaluable : AbsentOrWithin (e .lastevaluable)
 
-pub record CountedWithin (c : CountingVisits) : Type 0 where
+pub record CountingWithin (c : CountingVisits) : Type 0 where
   pub firstresponse : AbsentOrWithin (c .firstresponse)
   pub crstart : AbsentOrWithin (c .crstart)
 
 pub record EnrolmentWithin (e : Enrolment) : Type 0 where
   pub randomisation : dateExists (e .randomisation) ≡ true
   pub count : e .disease .count ≤ 5
-  pub sum : e .disease .sum ≤ 2500
+  pub baselinesum : e .disease .baselinesum ≤ 2500
 
 pub record FollowUpWithin (f : FollowUp) : Type 0 where
   pub nadir : f .earlier .nadir ≤ 2500
   pub latestday : Within (f .latestday .0)
   pub deathday : AbsentOrWithin (f .deathday)
   pub event : EventWithin (f .event)
-  pub counted : CountedWithin (f .counted)
+  pub counting : CountingWithin (f .counting)
 
 -- every day from 1 to 40,177, every sum at most 2,500, at most 5 targets, and a randomisation date that 3 does not meet
 pub record SubjectWithin (s : Subject) : Type 0 where

@@ -11,8 +11,8 @@ use Rattle.outcome_rules.specs.Values.{isRecorded, dayValue}
 use Rattle.outcome_rules.specs.Course.{Judged}
 use Rattle.outcome_rules.specs.declared.BestResponse.{BestResponse}
 use Rattle.outcome_rules.specs.declared.BestResponse.the-variants as B
-use Rattle.outcome_rules.specs.BestResponse.{isCR, isResponse, isStableOrBetter, mayStandBetween, stableFrom, bestOf}
-use Rattle.subject.specs.Days.{at, firstOf, farAfter}
+use Rattle.outcome_rules.specs.BestResponse.{isCR, isResponse, isStableOrBetter, allowedBetweenCR, stableDiseaseFrom, bestOf}
+use Rattle.subject.specs.Days.{at, firstRecorded, confirmedOn}
 use Rattle.subject.specs.declared.EventDays.{EventDays}
 use Rattle.subject.specs.declared.CountingVisits.{CountingVisits}
 
@@ -60,23 +60,23 @@ betterOf B.NE y = y
 
 -- what one counting visit more shows, with those before it: CR far enough after the start of a run of CR, CR or PR far enough after the first of them, CR, PR
 -- or SD late enough, or progression
-abbrev pub shownBy : CountingVisits → Judged → Word
-shownBy c j =
-    bestOf (both (isCR (j .answer)) (farAfter (c .crstart) (j .day))) (both (isResponse (j .answer)) (farAfter (c .firstresponse) (j .day)))
-    (both (isStableOrBetter (j .answer)) (leb stableFrom (j .day))) (isPD (j .answer))
+abbrev pub bestShown : CountingVisits → Judged → Word
+bestShown c j =
+    bestOf (both (isCR (j .answer)) (confirmedOn (c .crstart) (j .day))) (both (isResponse (j .answer)) (confirmedOn (c .firstresponse) (j .day)))
+    (both (isStableOrBetter (j .answer)) (leb stableDiseaseFrom (j .day))) (isPD (j .answer))
 
 -- the first CR or PR, and the first CR since which every visit was CR or NE
-abbrev pub firstAfter : MaybeDay → Judged → MaybeDay
-firstAfter first j = pick (isResponse (j .answer)) (firstOf first (at (j .day))) first
+abbrev pub firstResponseAfter : MaybeDay → Judged → MaybeDay
+firstResponseAfter first j = pick (isResponse (j .answer)) (firstRecorded first (at (j .day))) first
 
-abbrev pub startAfter : MaybeDay → Judged → MaybeDay
-startAfter start j = pick (isCR (j .answer)) (firstOf start (at (j .day))) (pick (mayStandBetween (j .answer)) start M.Absent)
+abbrev pub crStartAfter : MaybeDay → Judged → MaybeDay
+crStartAfter start j = pick (isCR (j .answer)) (firstRecorded start (at (j .day))) (pick (allowedBetweenCR (j .answer)) start M.Absent)
 
 -- one counting visit more
-unfoldable pub countedAfter : CountingVisits → Judged → CountingVisits
-countedAfter c j =
+unfoldable pub countingAfter : CountingVisits → Judged → CountingVisits
+countingAfter c j =
     record {
-      firstresponse = firstAfter (c .firstresponse) j;
-      crstart = startAfter (c .crstart) j;
-      best = betterOf (c .best) (bestFrom (shownBy c j));
+      firstresponse = firstResponseAfter (c .firstresponse) j;
+      crstart = crStartAfter (c .crstart) j;
+      best = betterOf (c .best) (bestFrom (bestShown c j));
     }

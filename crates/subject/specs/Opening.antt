@@ -18,7 +18,7 @@ use Rattle.records.specs.Refusals.{ownNumber}
 use Rattle.laws.specs.Layout.{AreBytes}
 use Rattle.codec.specs.Reading.{refusalsOfBytes, recordOfBytes}
 use Rattle.response_rules.specs.Inputs.{diseaseOf}
-use Rattle.response_rules.specs.Nadir.{leftBy}
+use Rattle.response_rules.specs.Nadir.{earlierOf}
 use Rattle.outcome_rules.specs.declared.BestResponse.the-variants as B
 use Rattle.outcome_rules.specs.declared.MaybeDay.the-variants as M
 use Rattle.outcome_rules.specs.Adding.{notBaseline, refusalsOfOpening, refusalOfOpening}
@@ -32,43 +32,43 @@ use Rattle.subject.specs.declared.Subject.{Subject}
 abbrev pub noVisits : StudyDay → EventDays
 noVisits day = record { progression = M.Absent; lastvisit = day; lastevaluable = M.Absent }
 
-abbrev pub nothingCounted : CountingVisits
-nothingCounted = record { firstresponse = M.Absent; crstart = M.Absent; best = B.NE }
+abbrev pub noCountingVisits : CountingVisits
+noCountingVisits = record { firstresponse = M.Absent; crstart = M.Absent; best = B.NE }
 
 -- the latest day and v start at 1
-unfoldable pub firstSubject : BaselineEntry → List Bool → List ℕ → Subject
-firstSubject b nodes sizes =
+unfoldable pub subjectOfBaseline : BaselineEntry → List Bool → List ℕ → Subject
+subjectOfBaseline b nodes sizes =
     record {
       enrolment = record { randomisation = b .date; nontarget = b .nontarget; disease = diseaseOf b nodes sizes };
       followup =
           record {
-            earlier = leftBy (diseaseOf b nodes sizes) [];
+            earlier = earlierOf (diseaseOf b nodes sizes) [];
             latestday = record { 0 = 1 };
-            treated = false;
+            therapyrecorded = false;
             deathday = M.Absent;
             event = noVisits (record { 0 = 1 });
-            counted = nothingCounted;
+            counting = noCountingVisits;
           };
     }
 
 -- everything zero, so that 12 meets it
-unfoldable pub blank : Subject
-blank =
+unfoldable pub blankSubject : Subject
+blankSubject =
     record {
       enrolment =
           record {
             randomisation = ymd 0 0 0;
             nontarget = false;
-            disease = record { assessed = false; count = 0; nodes = false ∷ false ∷ false ∷ false ∷ false ∷ []; sum = 0 };
+            disease = record { assessed = false; count = 0; nodes = false ∷ false ∷ false ∷ false ∷ false ∷ []; baselinesum = 0 };
           };
       followup =
           record {
             earlier = record { nadir = 0 };
             latestday = record { 0 = 0 };
-            treated = false;
+            therapyrecorded = false;
             deathday = M.Absent;
             event = noVisits (record { 0 = 0 });
-            counted = nothingCounted;
+            counting = noCountingVisits;
           };
     }
 
@@ -81,23 +81,23 @@ openNumber (O.Refused own) = ownNumber own
 openNumber O.NotBaseline = 7
 
 -- the subject that a baseline opens; any other record is refused
-abbrev pub subjectOf : Entry → List Bool → List ℕ → Subject
-subjectOf (E.Baseline b) marks sizes = firstSubject b marks sizes
-subjectOf (E.Visit v) marks sizes = blank
-subjectOf (E.Therapy d) marks sizes = blank
-subjectOf (E.Death d) marks sizes = blank
+abbrev pub subjectOfEntry : Entry → List Bool → List ℕ → Subject
+subjectOfEntry (E.Baseline b) marks sizes = subjectOfBaseline b marks sizes
+subjectOfEntry (E.Visit v) marks sizes = blankSubject
+subjectOfEntry (E.Therapy d) marks sizes = blankSubject
+subjectOfEntry (E.Death d) marks sizes = blankSubject
 
 -- opening with a record that none of its own refusals meets
 pub record OpensChecked (e : Entry) (marks : List Bool) (sizes : List ℕ) (a : OpenAnswer) (s : Subject) : Type 0 where
   pub answer : openNumber a ≡ first (7 when notBaseline e ∷ [])
-  pub made : s ≡ subjectOf e marks sizes
+  pub made : s ≡ subjectOfEntry e marks sizes
 
 -- beside a refusal one fixed blank
 unfoldable pub openedSubject : Record → Subject
-openedSubject r = pick (eqb (refusalOfOpening r) 0) (subjectOf (r .entry) (r .marks) (r .sizes)) blank
+openedSubject r = pick (eqb (refusalOfOpening r) 0) (subjectOfEntry (r .entry) (r .marks) (r .sizes)) blankSubject
 
 -- the first of 3 to 5 and 7, or the subject; and what the declared type of a record says of its arrays
-pub record Opened (r : Record) (a : OpenAnswer) (s : Subject) : Type 0 where
+pub record Opens (r : Record) (a : OpenAnswer) (s : Subject) : Type 0 where
   pub answer : openNumber a ≡ refusalOfOpening r
   pub made : s ≡ openedSubject r
   pub five : Five r

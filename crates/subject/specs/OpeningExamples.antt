@@ -8,7 +8,7 @@ use Rattle.dates.specs.Laws.{ymd}
 use Rattle.records.specs.Examples.{fivePlaces, baselineDated, therapyDated, deathDated}
 use Rattle.records.specs.declared.OwnRefusal.the-variants as N
 use Rattle.outcome_rules.specs.declared.MaybeDay.the-variants as M
-use Rattle.outcome_rules.specs.AddingExamples.{printedBaseline, visited}
+use Rattle.outcome_rules.specs.AddingExamples.{printedBaseline, printedVisit43}
 use Rattle.subject.specs.declared.Subject.{Subject}
 use Rattle.subject.specs.HeldExamples.{events, noCounts, subjectWith, printedOpened}
 use Rattle.subject.specs.Opening.{openNumber, openedSubject}
@@ -17,7 +17,7 @@ use Rattle.subject.specs.declared.OpenAnswer.the-variants as O
 -- everything zero, every day absent
 abbrev pub zeros : Subject
 zeros =
-    subjectWith (ymd 0 0 0) false (record { assessed = false; count = 0; nodes = fivePlaces false []; sum = 0 }) 0 0 false M.Absent
+    subjectWith (ymd 0 0 0) false (record { assessed = false; count = 0; nodes = fivePlaces false []; baselinesum = 0 }) 0 0 false M.Absent
     (events M.Absent 0 M.Absent) noCounts
 
 pub record OpenedAtTheEdges : Type 0 where
@@ -28,6 +28,6 @@ pub record OpenedAtTheEdges : Type 0 where
   pub withoutNontarget : openedSubject (baselineDated (ymd 2020 1 1) true false 1 [] (100 ∷ [])) .enrolment .nontarget ≡ false
   -- a refusal carries its number and nothing else: beside a baseline without a date (3), a visit, a therapy and a death (7) stands the blank
   pub noDate : openedSubject (printedBaseline (ymd 2021 2 29)) ≡ zeros
-  pub visit : openedSubject visited ≡ zeros
+  pub visit : openedSubject printedVisit43 ≡ zeros
   pub therapy : openedSubject (therapyDated (ymd 2020 2 20)) ≡ zeros
   pub death : openedSubject (deathDated (ymd 2020 2 20)) ≡ zeros

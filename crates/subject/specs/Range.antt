@@ -33,12 +33,12 @@ largestSum = mostTargets * largestSize
 abbrev pub eventInRange : EventDays → Bool
 eventInRange e = both (dayInRange (e .lastvisit .0)) (both (maybeInRange (e .progression)) (maybeInRange (e .lastevaluable)))
 
-abbrev pub countedInRange : CountingVisits → Bool
-countedInRange c = both (maybeInRange (c .firstresponse)) (maybeInRange (c .crstart))
+abbrev pub countingInRange : CountingVisits → Bool
+countingInRange c = both (maybeInRange (c .firstresponse)) (maybeInRange (c .crstart))
 
 -- the randomisation date, the target count and the baseline sum
 unfoldable pub enrolmentInRange : Enrolment → Bool
-enrolmentInRange e = both (dateExists (e .randomisation)) (both (leb (e .disease .count) mostTargets) (leb (e .disease .sum) largestSum))
+enrolmentInRange e = both (dateExists (e .randomisation)) (both (leb (e .disease .count) mostTargets) (leb (e .disease .baselinesum) largestSum))
 
 -- the nadir and the days
 unfoldable pub followUpInRange : FollowUp → Bool
@@ -47,7 +47,7 @@ followUpInRange f =
     (both (dayInRange (f .latestday .0))
     (both (maybeInRange (f .deathday))
     (both (eventInRange (f .event))
-    (countedInRange (f .counted)))))
+    (countingInRange (f .counting)))))
 
 unfoldable pub inRange : Subject → Bool
 inRange s = both (enrolmentInRange (s .enrolment)) (followUpInRange (s .followup))

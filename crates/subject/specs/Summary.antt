@@ -4,13 +4,13 @@
 use mathlib.Core.List.{List, [], _∷_}
 use Rattle.laws.specs.Choice.{pick}
 use Rattle.dates.specs.declared.Date.{Date}
-use Rattle.response_rules.specs.Nadir.{leftBy}
+use Rattle.response_rules.specs.Nadir.{earlierOf}
 use Rattle.outcome_rules.specs.Values.{Day, none, on, isRecorded, _orElse_}
 use Rattle.outcome_rules.specs.StudyRecords.{Baseline, disease}
 use Rattle.outcome_rules.specs.LawfulLists.{Past, latestDay, deathDay}
-use Rattle.outcome_rules.specs.Course.{visitsOf, Judged, course, treated, visitsIn, firstPD, counting}
+use Rattle.outcome_rules.specs.Course.{visitsOf, Judged, course, therapyRecorded, visitsIn, firstPD, countingVisits}
 use Rattle.outcome_rules.specs.Pfs.{beforeEvent, lastVisit, lastEvaluable}
-use Rattle.outcome_rules.specs.BestResponse.{isCR, mayStandBetween, confirmedCR, confirmedResponse, stable, bestOf}
+use Rattle.outcome_rules.specs.BestResponse.{isCR, allowedBetweenCR, confirmedCR, confirmedResponse, stableDisease, bestOf}
 use Rattle.outcome_rules.specs.Duration.{firstResponse}
 use Rattle.subject.specs.declared.EventDays.{EventDays}
 use Rattle.subject.specs.declared.CountingVisits.{CountingVisits}
@@ -21,7 +21,7 @@ use Rattle.subject.specs.OneVisitMore.{bestFrom}
 -- the first CR since which every visit was CR or NE
 abbrev pub crStart : List Judged → Day
 crStart [] = none
-crStart (j ∷ js) = pick (isCR (j .answer)) (crStart js orElse on (j .day)) (pick (mayStandBetween (j .answer)) (crStart js) none)
+crStart (j ∷ js) = pick (isCR (j .answer)) (crStart js orElse on (j .day)) (pick (allowedBetweenCR (j .answer)) (crStart js) none)
 
 -- of the visits in a course
 unfoldable pub eventOf : List Judged → EventDays
@@ -33,12 +33,12 @@ eventOf js =
     }
 
 -- of the counting visits
-unfoldable pub countedOf : List Judged → CountingVisits
-countedOf js =
+unfoldable pub countingOf : List Judged → CountingVisits
+countingOf js =
     record {
       firstresponse = maybe (firstResponse js);
       crstart = maybe (crStart js);
-      best = bestFrom (bestOf (confirmedCR js) (confirmedResponse js) (stable js) (isRecorded (firstPD js)));
+      best = bestFrom (bestOf (confirmedCR js) (confirmedResponse js) (stableDisease js) (isRecorded (firstPD js)));
     }
 
 unfoldable pub summary : Date → Baseline → Past → Subject
@@ -47,11 +47,11 @@ summary randomisation b p =
       enrolment = record { randomisation = randomisation; nontarget = b .nontarget; disease = disease b };
       followup =
           record {
-            earlier = leftBy (disease b) (visitsOf p);
+            earlier = earlierOf (disease b) (visitsOf p);
             latestday = at (latestDay p);
-            treated = treated (course b p);
+            therapyrecorded = therapyRecorded (course b p);
             deathday = maybe (deathDay p);
             event = eventOf (visitsIn (course b p));
-            counted = countedOf (counting (course b p));
+            counting = countingOf (countingVisits (course b p));
           };
     }

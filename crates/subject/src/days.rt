@@ -2,13 +2,13 @@
 use dates::StudyDay;
 use outcome_rules::MaybeDay;
 ghost use mathlib.Core.Path.{_≡_};
-ghost use Rattle.subject.specs.Days.{firstOf, farAfter};
+ghost use Rattle.subject.specs.Days.{firstRecorded, confirmedOn};
 
 // Days between a response and its confirmation.
-const CONFIRM_DAYS: u64 = 28;
+const CONFIRMATION_DAYS: u64 = 28;
 
-pub(crate) fn first_of(before: MaybeDay, day: StudyDay) -> MaybeDay
-    ensures { λ r. ⌜ r ≡ firstOf before day ⌝ }
+pub(crate) fn first_recorded(before: MaybeDay, day: StudyDay) -> MaybeDay
+    ensures { λ r. ⌜ r ≡ firstRecorded before day ⌝ }
 {
     match before {
         MaybeDay::Absent => MaybeDay::On(day),
@@ -16,11 +16,11 @@ pub(crate) fn first_of(before: MaybeDay, day: StudyDay) -> MaybeDay
     }
 }
 
-pub(crate) fn far_after(before: MaybeDay, day: StudyDay) -> bool
-    ensures { λ r. ⌜ r ≡ farAfter before (day .0) ⌝ }
+pub(crate) fn confirmed_on(before: MaybeDay, day: StudyDay) -> bool
+    ensures { λ r. ⌜ r ≡ confirmedOn before (day .0) ⌝ }
 {
     match before {
         MaybeDay::Absent => false,
-        MaybeDay::On(d) => d.0 as u64 + CONFIRM_DAYS <= day.0 as u64,
+        MaybeDay::On(d) => d.0 as u64 + CONFIRMATION_DAYS <= day.0 as u64,
     }
 }

@@ -18,7 +18,7 @@ pub use opening::open_number;
 pub use opening::open_subject;
 pub use range::enrolment_in_range;
 pub use range::followup_in_range;
-pub use visits::counted_after;
+pub use visits::counting_after;
 pub use visits::event_after;
 
 // What progression-free survival is read from, beside the day of death.
@@ -54,10 +54,10 @@ pub struct FollowUp {
     // The day of the last record, or day 1.
     pub latestday: StudyDay,
     // A therapy is recorded.
-    pub treated: bool,
+    pub therapyrecorded: bool,
     pub deathday: MaybeDay,
     pub event: EventDays,
-    pub counted: CountingVisits,
+    pub counting: CountingVisits,
 }
 
 pub struct Subject {

@@ -18,7 +18,7 @@ use records::Record;
 use response_rules::BaselineDisease;
 use response_rules::Earlier;
 ghost use mathlib.Core.Path.{_≡_};
-ghost use Rattle.subject.specs.Opening.{noVisits, nothingCounted, firstSubject, blank, openNumber, OpensChecked, Opened, OpensBytes};
+ghost use Rattle.subject.specs.Opening.{noVisits, noCountingVisits, subjectOfBaseline, blankSubject, openNumber, OpensChecked, Opens, OpensBytes};
 
 // The number in document 01; 0 where a subject was opened.
 pub fn open_number(answer: OpenAnswer) -> u8
@@ -43,8 +43,8 @@ fn no_visits(day: StudyDay) -> EventDays
     }
 }
 
-fn nothing_counted() -> CountingVisits
-    ensures { λ r. ⌜ r ≡ nothingCounted ⌝ }
+fn no_counting_visits() -> CountingVisits
+    ensures { λ r. ⌜ r ≡ noCountingVisits ⌝ }
 {
     CountingVisits {
         firstresponse: MaybeDay::Absent,
@@ -53,15 +53,15 @@ fn nothing_counted() -> CountingVisits
     }
 }
 
-fn first_subject(entry: BaselineEntry, nodes: [bool; 5], sizes: [u16; 5]) -> Subject
-    ensures { λ r. ⌜ r ≡ firstSubject entry nodes sizes ⌝ }
+fn subject_of_baseline(entry: BaselineEntry, nodes: [bool; 5], sizes: [u16; 5]) -> Subject
+    ensures { λ r. ⌜ r ≡ subjectOfBaseline entry nodes sizes ⌝ }
 {
     let date = entry.date;
     let judged = response::judge_baseline(entry, nodes, sizes);
     let disease = judged.disease;
     let after = judged.after;
     let event = no_visits(StudyDay(1));
-    let counted = nothing_counted();
+    let counting = no_counting_visits();
     let enrolment = Enrolment {
         randomisation: date,
         nontarget: entry.nontarget,
@@ -70,10 +70,10 @@ fn first_subject(entry: BaselineEntry, nodes: [bool; 5], sizes: [u16; 5]) -> Sub
     let followup = FollowUp {
         earlier: after,
         latestday: StudyDay(1),
-        treated: false,
+        therapyrecorded: false,
         deathday: MaybeDay::Absent,
         event: event,
-        counted: counted,
+        counting: counting,
     };
     Subject {
         enrolment: enrolment,
@@ -82,10 +82,10 @@ fn first_subject(entry: BaselineEntry, nodes: [bool; 5], sizes: [u16; 5]) -> Sub
 }
 
 fn blank_subject() -> Subject
-    ensures { λ r. ⌜ r ≡ blank ⌝ }
+    ensures { λ r. ⌜ r ≡ blankSubject ⌝ }
 {
     let event = no_visits(StudyDay(0));
-    let counted = nothing_counted();
+    let counting = no_counting_visits();
     let enrolment = Enrolment {
         randomisation: Date {
             year: 0,
@@ -97,16 +97,16 @@ fn blank_subject() -> Subject
             assessed: false,
             count: 0,
             nodes: [false; 5],
-            sum: 0,
+            baselinesum: 0,
         },
     };
     let followup = FollowUp {
         earlier: Earlier { nadir: 0 },
         latestday: StudyDay(0),
-        treated: false,
+        therapyrecorded: false,
         deathday: MaybeDay::Absent,
         event: event,
-        counted: counted,
+        counting: counting,
     };
     Subject {
         enrolment: enrolment,
@@ -115,7 +115,7 @@ fn blank_subject() -> Subject
 }
 
 fn refused(answer: OpenAnswer) -> OpenResult
-    ensures { λ x. ⌜ (x .answer ≡ answer) × (x .subject ≡ blank) ⌝ }
+    ensures { λ x. ⌜ (x .answer ≡ answer) × (x .subject ≡ blankSubject) ⌝ }
 {
     let subject = blank_subject();
     OpenResult {
@@ -130,7 +130,7 @@ fn open_checked(entry: Entry, marks: [bool; 5], sizes: [u16; 5]) -> OpenResult
 {
     match entry {
         Entry::Baseline(b) => {
-            let subject = first_subject(b, marks, sizes);
+            let subject = subject_of_baseline(b, marks, sizes);
             OpenResult {
                 subject: subject,
                 answer: OpenAnswer::Done,
@@ -143,7 +143,7 @@ fn open_checked(entry: Entry, marks: [bool; 5], sizes: [u16; 5]) -> OpenResult
 }
 
 pub fn open_subject(r: Record) -> OpenResult
-    ensures { λ x. ⌜ Opened r (x .answer) (x .subject) ⌝ }
+    ensures { λ x. ⌜ Opens r (x .answer) (x .subject) ⌝ }
 {
     let entry = r.entry;
     let marks = r.marks;

@@ -8,7 +8,7 @@ use outcome_rules::MaybeDay;
 use records::LARGEST_SIZE;
 use records::MOST_TARGETS;
 ghost use mathlib.Core.Path.{_≡_};
-ghost use Rattle.subject.specs.Range.{dayInRange, maybeInRange, eventInRange, countedInRange, enrolmentInRange, followUpInRange};
+ghost use Rattle.subject.specs.Range.{dayInRange, maybeInRange, eventInRange, countingInRange, enrolmentInRange, followUpInRange};
 
 // The randomisation's day is the first.
 const FIRST_DAY: u32 = 1;
@@ -41,11 +41,11 @@ fn event_in_range(event: EventDays) -> bool
     day_in_range(event.lastvisit) && (maybe_in_range(progression) && maybe_in_range(evaluable))
 }
 
-fn counted_in_range(counted: CountingVisits) -> bool
-    ensures { λ r. ⌜ r ≡ countedInRange counted ⌝ }
+fn counting_in_range(counting: CountingVisits) -> bool
+    ensures { λ r. ⌜ r ≡ countingInRange counting ⌝ }
 {
-    let first = counted.firstresponse;
-    let start = counted.crstart;
+    let first = counting.firstresponse;
+    let start = counting.crstart;
     maybe_in_range(first) && maybe_in_range(start)
 }
 
@@ -53,7 +53,7 @@ pub fn enrolment_in_range(e: Enrolment) -> bool
     ensures { λ r. ⌜ r ≡ enrolmentInRange e ⌝ }
 {
     dates::date_exists(e.randomisation)
-        && (e.disease.count <= MOST_TARGETS && e.disease.sum <= LARGEST_SUM)
+        && (e.disease.count <= MOST_TARGETS && e.disease.baselinesum <= LARGEST_SUM)
 }
 
 pub fn followup_in_range(f: FollowUp) -> bool
@@ -61,8 +61,8 @@ pub fn followup_in_range(f: FollowUp) -> bool
 {
     let death = f.deathday;
     let event = f.event;
-    let counted = f.counted;
+    let counting = f.counting;
     f.earlier.nadir <= LARGEST_SUM
         && (day_in_range(f.latestday)
-            && (maybe_in_range(death) && (event_in_range(event) && counted_in_range(counted))))
+            && (maybe_in_range(death) && (event_in_range(event) && counting_in_range(counting))))
 }

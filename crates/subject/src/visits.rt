@@ -1,8 +1,8 @@
 // What one visit more makes of the days of the event and of what the counting visits show.
 use super::CountingVisits;
 use super::EventDays;
-use super::days::far_after;
-use super::days::first_of;
+use super::days::confirmed_on;
+use super::days::first_recorded;
 use dates::StudyDay;
 use outcome_rules::BestResponse;
 use outcome_rules::JudgedVisit;
@@ -12,10 +12,10 @@ use outcome_values::is_recorded;
 use response_rules::Overall;
 ghost use mathlib.Core.Path.{_≡_};
 ghost use Rattle.outcome_rules.specs.Course.{judgedValues};
-ghost use Rattle.subject.specs.OneVisitMore.{evaluableOn, eventAfter, bestFrom, betterOf, shownBy, firstAfter, startAfter, countedAfter};
+ghost use Rattle.subject.specs.OneVisitMore.{evaluableOn, eventAfter, bestFrom, betterOf, bestShown, firstResponseAfter, crStartAfter, countingAfter};
 
 // The day from which SD is a best response.
-const STABLE_FROM: u32 = 36;
+const STABLE_DISEASE_FROM: u32 = 36;
 
 // A visit before the event that is evaluable.
 fn evaluable_on(visit: StudyDay) -> EventDays
@@ -88,44 +88,49 @@ fn better_of(a: BestResponse, b: BestResponse) -> BestResponse
 }
 
 // What a counting visit shows with those before it.
-fn shown_by(c: CountingVisits, visit: JudgedVisit) -> BestResponse
-    ensures { λ r. ⌜ r ≡ bestFrom (shownBy c (judgedValues visit)) ⌝ }
+fn best_shown(c: CountingVisits, visit: JudgedVisit) -> BestResponse
+    ensures { λ r. ⌜ r ≡ bestFrom (bestShown c (judgedValues visit)) ⌝ }
 {
     let day = visit.day;
     let answer = visit.answer;
     let first = c.firstresponse;
     let start = c.crstart;
-    let late = STABLE_FROM <= day.0;
+    let late = STABLE_DISEASE_FROM <= day.0;
     match answer {
-        Overall::CR => best_of(far_after(start, day), far_after(first, day), late, false),
-        Overall::PR => best_of(false, far_after(first, day), late, false),
+        Overall::CR => best_of(
+            confirmed_on(start, day),
+            confirmed_on(first, day),
+            late,
+            false,
+        ),
+        Overall::PR => best_of(false, confirmed_on(first, day), late, false),
         Overall::SD => best_of(false, false, late, false),
         Overall::PD => BestResponse::PD,
         Overall::NE => BestResponse::NE,
     }
 }
 
-fn first_after(first: MaybeDay, visit: JudgedVisit) -> MaybeDay
-    ensures { λ r. ⌜ r ≡ firstAfter first (judgedValues visit) ⌝ }
+fn first_response_after(first: MaybeDay, visit: JudgedVisit) -> MaybeDay
+    ensures { λ r. ⌜ r ≡ firstResponseAfter first (judgedValues visit) ⌝ }
 {
     let day = visit.day;
     let answer = visit.answer;
     match answer {
-        Overall::CR => first_of(first, day),
-        Overall::PR => first_of(first, day),
+        Overall::CR => first_recorded(first, day),
+        Overall::PR => first_recorded(first, day),
         Overall::SD => first,
         Overall::PD => first,
         Overall::NE => first,
     }
 }
 
-fn start_after(start: MaybeDay, visit: JudgedVisit) -> MaybeDay
-    ensures { λ r. ⌜ r ≡ startAfter start (judgedValues visit) ⌝ }
+fn cr_start_after(start: MaybeDay, visit: JudgedVisit) -> MaybeDay
+    ensures { λ r. ⌜ r ≡ crStartAfter start (judgedValues visit) ⌝ }
 {
     let day = visit.day;
     let answer = visit.answer;
     match answer {
-        Overall::CR => first_of(start, day),
+        Overall::CR => first_recorded(start, day),
         Overall::PR => MaybeDay::Absent,
         Overall::SD => MaybeDay::Absent,
         Overall::PD => MaybeDay::Absent,
@@ -133,16 +138,16 @@ fn start_after(start: MaybeDay, visit: JudgedVisit) -> MaybeDay
     }
 }
 
-pub fn counted_after(c: CountingVisits, visit: JudgedVisit) -> CountingVisits
-    ensures { λ r. ⌜ r ≡ countedAfter c (judgedValues visit) ⌝ }
+pub fn counting_after(c: CountingVisits, visit: JudgedVisit) -> CountingVisits
+    ensures { λ r. ⌜ r ≡ countingAfter c (judgedValues visit) ⌝ }
 {
     let first = c.firstresponse;
     let start = c.crstart;
     let best = c.best;
-    let shown = shown_by(c, visit);
+    let shown = best_shown(c, visit);
     CountingVisits {
-        firstresponse: first_after(first, visit),
-        crstart: start_after(start, visit),
+        firstresponse: first_response_after(first, visit),
+        crstart: cr_start_after(start, visit),
         best: better_of(best, shown),
     }
 }

@@ -2,10 +2,10 @@
 -- Assumes nothing.
 use mathlib.Core.Path.{refl}
 use Rattle.dates.specs.Calendar.{leapYear, daysInMonth, dateExists}
-use Rattle.records.specs.Refusals.{setBeyond, outsideLimits, notZero, refusalsOfRead}
-use Rattle.writing.specs.Writing.{refusalOfWrite}
+use Rattle.records.specs.Refusals.{notZeroBeyondCount, outsideLimits, notZero, refusalsOfRead}
+use Rattle.writing.specs.Writing.{refusalOfWriting}
 use Rattle.writing.specs.Examples.{FirstRefusals}
 
 pub first-refusals : FirstRefusals
-unfolding leapYear daysInMonth dateExists setBeyond outsideLimits notZero refusalsOfRead refusalOfWrite
+unfolding leapYear daysInMonth dateExists notZeroBeyondCount outsideLimits notZero refusalsOfRead refusalOfWriting
 first-refusals = record { badIntoShort = refl; intoTen = refl; intoEleven = refl; numbers = refl }

@@ -13,7 +13,7 @@ use Rattle.laws.specs.Layout.{total, unpack, Fit, bytes}
 use Rattle.laws.proofs.PackUnpack.{pack-lt, unpack-pack, pack-unpack}
 use Rattle.laws.proofs.LayoutsAppended.{fit-append}
 use Rattle.records.specs.Entries.{dateOf, Five, kindNumber, statusNumber}
-use Rattle.records.specs.Refusals.{mostTargets, setBeyond, targetAt, someTarget, notZero, refusalOf}
+use Rattle.records.specs.Refusals.{mostTargets, notZeroBeyondCount, targetAt, someTarget, notZero, refusalOfRecord}
 use Rattle.records.specs.declared.Record.{Record}
 use Rattle.records.specs.declared.Entry.{Entry}
 use Rattle.records.specs.declared.Entry.the-variants.{Baseline, Visit, Therapy, Death}
@@ -21,7 +21,7 @@ use Rattle.records.specs.declared.Status.{Status}
 use Rattle.records.specs.declared.Status.the-variants.{NA, CR, NN, PD, NE}
 use Rattle.records.proofs.NoOwnRefusal.{passes, clear-target}
 use Rattle.codec.specs.Bytes.{recordLength, bit, headLayout, bodyLayout, headFields, targetFields, bodyFields, layoutOf, fieldsOf, recordNumber, bytesOf, bytesNumber}
-use Rattle.codec.specs.Reading.{isOne, dateFrom, marksFrom, sizesFrom, statusFrom, baselineFrom, visitFrom, spareFrom, baselineIn, visitIn, spareIn, rawIn, kindIn, refusalsOfNumber, refusalsOfBytes, refusalOfBytes, recordOfBytes}
+use Rattle.codec.specs.Reading.{isOne, dateFrom, marksFrom, sizesFrom, statusFrom, baselineFrom, visitFrom, spareFrom, baselineIn, visitIn, spareIn, rawIn, kindIn, refusalsOfRecordNumber, refusalsOfBytes, refusalOfBytes, recordOfBytes}
 use Rattle.writing.proofs.FieldsFit.{status-le, kind-range, head-fits, body-fits}
 
 isOne-bit : (b : Bool) → isOne (bit b) ≡ b
@@ -47,7 +47,7 @@ module _ (m : List Bool) (s : List ℕ) (lm : length m ≡ 5) (ls : length s ≡
   marks-back : marksFrom (targetFields m s) ≡ m
   marks-back = simp isOne-bit (whole false m 5 lm)
 
-  no-targets : someTarget (setBeyond 0) m s ≡ false →
+  no-targets : someTarget (notZeroBeyondCount 0) m s ≡ false →
       (m ≡ false ∷ false ∷ false ∷ false ∷ false ∷ []) × (s ≡ 0 ∷ 0 ∷ 0 ∷ 0 ∷ 0 ∷ [])
   no-targets z = (
     sym (whole false m 5 lm) ∙ rw (at 0 (lit< tt) .0, at 1 (lit< tt) .0, at 2 (lit< tt) .0, at 3 (lit< tt) .0, at 4 (lit< tt) .0),
@@ -55,7 +55,7 @@ module _ (m : List Bool) (s : List ℕ) (lm : length m ≡ 5) (ls : length s ≡
   )
     where
       at : (k : ℕ) → k < mostTargets → (getD m k false ≡ false) × (getD s k 0 ≡ 0)
-      at k l = clear-target k (getD m k false) (getD s k 0) (some-none (targetAt (setBeyond 0) m s) mostTargets z k l)
+      at k l = clear-target k (getD m k false) (getD s k 0) (some-none (targetAt (notZeroBeyondCount 0) m s) mostTargets z k l)
 
   -- the fields are read as the record
   fields-back : (e : Entry) (n : ℕ) → notZero e m s ≡ false →
@@ -84,7 +84,7 @@ layout-total (Visit v) = refl
 layout-total (Therapy d) = refl
 layout-total (Death d) = refl
 
-module _ (r : Record) (five : Five r) (fine : refusalOf r ≡ 0) where
+module _ (r : Record) (five : Five r) (fine : refusalOfRecord r ≡ 0) where
   fields-fit : Fit (layoutOf (r .entry)) (fieldsOf (r .entry) (r .marks) (r .sizes))
   fields-fit =
       let p = passes r false false fine in
@@ -110,7 +110,7 @@ module _ (r : Record) (five : Five r) (fine : refusalOf r ≡ 0) where
       (fields-back (r .marks) (r .sizes) (five .marks) (five .sizes) (r .entry) _ (passes r false false fine .zeros) fields-of-number)
 
   pub no-refusal-back : refusalOfBytes (bytesOf r) ≡ 0
-  unfolding refusalsOfBytes bytesOf refusalsOfNumber
+  unfolding refusalsOfBytes bytesOf refusalsOfRecordNumber
   no-refusal-back =
       let k = kind-range (r .entry) in
       rw (kind-read, le-leb 1 (kindNumber (r .entry)) (k .0), le-leb (kindNumber (r .entry)) 4 (k .1), raw-read) fine

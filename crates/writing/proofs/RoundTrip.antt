@@ -6,23 +6,23 @@ use Prim.Native.Nat.{ℕ, _≤_}
 use lib.ListN.{length, take, drop}
 use borrow.Author.Tests.{le-ltb}
 use Rattle.dates.specs.Calendar.{leapYear, daysInMonth, dateExists}
-use Rattle.records.specs.Refusals.{wrongSize, setBeyond, withoutDisease, outsideLimits, notZero, refusalsOfRead, refusalOf}
+use Rattle.records.specs.Refusals.{sizeOutsideLimits, notZeroBeyondCount, withoutDisease, outsideLimits, notZero, refusalsOfRead, refusalOfRecord}
 use Rattle.records.specs.declared.Record.{Record}
 use Rattle.records.proofs.NoOwnRefusal.{none-after-own}
 use Rattle.codec.specs.Bytes.{recordLength, recordNumber, bytesOf, bytesNumber}
 use Rattle.codec.specs.Examples.{printedBaseline, printedBytes}
-use Rattle.codec.specs.Reading.{baselineIn, rawIn, refusalsOfNumber, refusalsOfBytes, refusalOfBytes, recordOfBytes}
+use Rattle.codec.specs.Reading.{baselineIn, rawIn, refusalsOfRecordNumber, refusalsOfBytes, refusalOfBytes, recordOfBytes}
 use Rattle.codec.proofs.NoRefusalOfBytes.{found-fine}
-use Rattle.writing.specs.Writing.{writeNumber, refusalOfWrite, outputOf, Writes}
+use Rattle.writing.specs.Writing.{writeNumber, refusalOfWriting, outputOf, Writes}
 use Rattle.writing.specs.Laws.{RoundTrips}
 use Rattle.writing.specs.declared.WriteAnswer.{WriteAnswer}
 use Rattle.writing.proofs.ReadBack.{no-refusal-back, record-back}
 use Rattle.writing.proofs.WrittenBack.{bytes-back}
 
 -- a record that no refusal meets, written where there is room
-module _ (r : Record) (out last : List ℕ) (a : WriteAnswer) (fine : refusalOf r ≡ 0) (room : recordLength ≤ length out) (w : Writes r out a last) where
-  not-refused : refusalOfWrite r out ≡ 0
-  unfolding refusalOfWrite
+module _ (r : Record) (out last : List ℕ) (a : WriteAnswer) (fine : refusalOfRecord r ≡ 0) (room : recordLength ≤ length out) (w : Writes r out a last) where
+  not-refused : refusalOfWriting r out ≡ 0
+  unfolding refusalOfWriting
   not-refused = none-after-own r _ .1 (fine, rw (le-ltb (length out) recordLength room))
 
   done : writeNumber a ≡ 0
@@ -38,8 +38,8 @@ module _ (r : Record) (out last : List ℕ) (a : WriteAnswer) (fine : refusalOf 
   unfolding outputOf
   stored = w .left ∙ rw not-refused
 
-printed-fine : refusalOf printedBaseline ≡ 0
-unfolding refusalsOfRead dateExists leapYear daysInMonth outsideLimits notZero withoutDisease wrongSize setBeyond
+printed-fine : refusalOfRecord printedBaseline ≡ 0
+unfolding refusalsOfRead dateExists leapYear daysInMonth outsideLimits notZero withoutDisease sizeOutsideLimits notZeroBeyondCount
 printed-fine = refl
 
 printed-bytes : bytesOf printedBaseline ≡ printedBytes
@@ -47,7 +47,7 @@ unfolding bytesOf recordNumber
 printed-bytes = refl
 
 printed-accepted : refusalOfBytes printedBytes ≡ 0
-unfolding refusalsOfBytes bytesNumber refusalsOfNumber rawIn baselineIn refusalsOfRead dateExists leapYear daysInMonth outsideLimits notZero withoutDisease wrongSize setBeyond
+unfolding refusalsOfBytes bytesNumber refusalsOfRecordNumber rawIn baselineIn refusalsOfRead dateExists leapYear daysInMonth outsideLimits notZero withoutDisease sizeOutsideLimits notZeroBeyondCount
 printed-accepted = refl
 
 printed-record : recordOfBytes printedBytes ≡ printedBaseline
@@ -65,7 +65,7 @@ round-trips =
           );
       writtenBack = λ s out last a x q e room w.
           let accepted = sym (q .answer) ∙ e in
-          let fine : refusalOf (x .found) ≡ 0 = rw (q .found) (found-fine s (q .octets) accepted) in (
+          let fine : refusalOfRecord (x .found) ≡ 0 = rw (q .found) (found-fine s (q .octets) accepted) in (
             done (x .found) out last a fine room w,
             stored (x .found) out last a fine room w ∙ rw (q .found, bytes-back s (q .octets) accepted),
           );

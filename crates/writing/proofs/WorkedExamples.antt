@@ -3,11 +3,11 @@
 -- Assumes nothing.
 use mathlib.Core.Path.{refl}
 use Rattle.dates.specs.Calendar.{leapYear, daysInMonth, dateExists}
-use Rattle.records.specs.Refusals.{wrongSize, setBeyond, withoutDisease, outsideLimits, notZero, refusalsOfRead}
+use Rattle.records.specs.Refusals.{sizeOutsideLimits, notZeroBeyondCount, withoutDisease, outsideLimits, notZero, refusalsOfRead}
 use Rattle.codec.specs.Bytes.{recordNumber, bytesOf}
-use Rattle.writing.specs.Writing.{refusalOfWrite, outputOf}
+use Rattle.writing.specs.Writing.{refusalOfWriting, outputOf}
 use Rattle.writing.specs.Examples.{Outputs}
 
 pub outputs : Outputs
-unfolding leapYear daysInMonth dateExists wrongSize setBeyond withoutDisease outsideLimits notZero refusalsOfRead recordNumber bytesOf refusalOfWrite outputOf
+unfolding leapYear daysInMonth dateExists sizeOutsideLimits notZeroBeyondCount withoutDisease outsideLimits notZero refusalsOfRead recordNumber bytesOf refusalOfWriting outputOf
 outputs = record { intoEleven = refl; intoThirteen = refl; tooShort = refl; badRecord = refl }

@@ -11,44 +11,44 @@ use Rattle.laws.specs.Choice.{pick}
 use Rattle.laws.specs.Refusals.{_when_, first}
 use Rattle.laws.specs.Layout.{pack, unpack, bytes}
 use Rattle.records.specs.Entries.{dateOf, kindNumber, Five}
-use Rattle.records.specs.Refusals.{ownNumber, checkNumber, refusalOf}
+use Rattle.records.specs.Refusals.{ownNumber, checkNumber, refusalOfRecord}
 use Rattle.records.specs.declared.Record.{Record}
 use Rattle.records.specs.declared.CheckAnswer.{CheckAnswer}
 use Rattle.records.specs.declared.CheckAnswer.the-variants as C
 use Rattle.records.specs.declared.OwnRefusal.{OwnRefusal}
 use Rattle.records.proofs.NoOwnRefusal.{own-not-0, passes, after-own}
 use Rattle.codec.specs.Bytes.{headLayout, bodyLayout, headFields, bodyFields, recordLength, bytesOf}
-use Rattle.writing.specs.Writing.{refusalOfWrite, outputOf, Writes}
+use Rattle.writing.specs.Writing.{refusalOfWriting, outputOf, Writes}
 use Rattle.writing.specs.declared.WriteAnswer.the-variants as W
 use Rattle.writing.proofs.FieldsFit.{two-parts}
 
-module _ (r : Record) (out : List ℕ) (a : CheckAnswer) (f : Five r) (e : checkNumber a ≡ refusalOf r) where
+module _ (r : Record) (out : List ℕ) (a : CheckAnswer) (f : Five r) (e : checkNumber a ≡ refusalOfRecord r) where
   -- 3 to 5 as checked, or else 6
-  checked-first : refusalOfWrite r out ≡ pick (eqb (checkNumber a) 0) (first (6 when ltb (length out) recordLength ∷ [])) (checkNumber a)
-  unfolding refusalOfWrite
+  checked-first : refusalOfWriting r out ≡ pick (eqb (checkNumber a) 0) (first (6 when ltb (length out) recordLength ∷ [])) (checkNumber a)
+  unfolding refusalOfWriting
   checked-first = rw e (after-own r (6 when ltb (length out) recordLength ∷ []))
 
   pub writes-refused : (own : OwnRefusal) → a ≡ C.Refused own → Writes r out (W.Refused own) out
   unfolding outputOf
   writes-refused own p =
-      let w : refusalOfWrite r out ≡ ownNumber own = checked-first ∙ rw (p, own-not-0 own) in
+      let w : refusalOfWriting r out ≡ ownNumber own = checked-first ∙ rw (p, own-not-0 own) in
       record { answer = sym w; left = rw (w, own-not-0 own); five = f }
 
   module _ (p : a ≡ C.Passed) where
     pub writes-short : length out < recordLength → Writes r out W.ShortOutput out
     unfolding outputOf
     writes-short h =
-        let w : refusalOfWrite r out ≡ 6 = checked-first ∙ rw (p, lt-ltb (length out) recordLength h) in
+        let w : refusalOfWriting r out ≡ 6 = checked-first ∙ rw (p, lt-ltb (length out) recordLength h) in
         record { answer = sym w; left = rw w; five = f }
 
     writes-stored : (last : List ℕ) → recordLength ≤ length out → last ≡ bytesOf r ++ drop recordLength out → Writes r out W.Done last
     unfolding outputOf
     writes-stored last h l =
-        let w : refusalOfWrite r out ≡ 0 = checked-first ∙ rw (p, le-ltb (length out) recordLength h) in
+        let w : refusalOfWriting r out ≡ 0 = checked-first ∙ rw (p, le-ltb (length out) recordLength h) in
         record { answer = sym w; left = l ∙ rw w; five = f }
 
 -- what is left in the output where both parts are stored
-pub writes-parts : (r : Record) (out last : List ℕ) (a : CheckAnswer) (head body : ℕ) → Five r → checkNumber a ≡ refusalOf r → a ≡ C.Passed →
+pub writes-parts : (r : Record) (out last : List ℕ) (a : CheckAnswer) (head body : ℕ) → Five r → checkNumber a ≡ refusalOfRecord r → a ≡ C.Passed →
     recordLength ≤ length out → head ≡ pack headLayout (headFields (kindNumber (r .entry)) (dateOf (r .entry))) →
     body ≡ pack (bodyLayout (r .entry)) (bodyFields (r .entry) (r .marks) (r .sizes)) →
     last ≡ (unpack (bytes 3) head ++ unpack (bytes 8) body) ++ drop recordLength out → Writes r out W.Done last

@@ -8,14 +8,14 @@ use Rattle.dates.specs.Laws.{ymd}
 use Rattle.records.specs.Examples.{filled, therapyDated}
 use Rattle.records.specs.declared.OwnRefusal.the-variants as O
 use Rattle.codec.specs.Examples.{eleven, fiveTargets, fiveTargetsBytes}
-use Rattle.writing.specs.Writing.{writeNumber, refusalOfWrite, outputOf}
+use Rattle.writing.specs.Writing.{writeNumber, refusalOfWriting, outputOf}
 use Rattle.writing.specs.declared.WriteAnswer.the-variants as W
 
 -- 3 to 5; after those, 6 output under 11 bytes
 pub record FirstRefusals : Type 0 where
-  pub badIntoShort : refusalOfWrite (therapyDated (ymd 2021 2 29)) [] ≡ 3
-  pub intoTen : refusalOfWrite (therapyDated (ymd 2020 2 20)) (filled 0 10 []) ≡ 6
-  pub intoEleven : refusalOfWrite (therapyDated (ymd 2020 2 20)) (eleven []) ≡ 0
+  pub badIntoShort : refusalOfWriting (therapyDated (ymd 2021 2 29)) [] ≡ 3
+  pub intoTen : refusalOfWriting (therapyDated (ymd 2020 2 20)) (filled 0 10 []) ≡ 6
+  pub intoEleven : refusalOfWriting (therapyDated (ymd 2020 2 20)) (eleven []) ≡ 0
   pub numbers : map writeNumber (W.Done ∷ W.Refused O.NotZero ∷ W.ShortOutput ∷ []) ≡ 0 ∷ 5 ∷ 6 ∷ []
 
 -- the bytes 1 to 11

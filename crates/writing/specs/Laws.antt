@@ -5,7 +5,7 @@ use mathlib.Core.Path.{_≡_}
 use Prim.Native.Nat.{ℕ, _≤_}
 use mathlib.Core.List.{List, _++_}
 use lib.ListN.{length, take, drop}
-use Rattle.records.specs.Refusals.{refusalOf}
+use Rattle.records.specs.Refusals.{refusalOfRecord}
 use Rattle.records.specs.declared.Record.{Record}
 use Rattle.codec.specs.Bytes.{recordLength}
 use Rattle.codec.specs.Examples.{printedBaseline, printedBytes}
@@ -16,7 +16,7 @@ use Rattle.writing.specs.declared.WriteAnswer.{WriteAnswer}
 
 pub record RoundTrips : Type 0 where
   -- a record that no refusal meets is written where there is room, and reading what is written gives the same record
-  pub readBack : (r : Record) (out last : List ℕ) (a : WriteAnswer) (x : ReadResult) → refusalOf r ≡ 0 → recordLength ≤ length out →
+  pub readBack : (r : Record) (out last : List ℕ) (a : WriteAnswer) (x : ReadResult) → refusalOfRecord r ≡ 0 → recordLength ≤ length out →
       Writes r out a last → Reads (take recordLength last) x →
       (writeNumber a ≡ 0) × (readNumber (x .answer) ≡ 0) × (x .found ≡ r)
   -- bytes that are read are 11, and writing the record gives the same bytes

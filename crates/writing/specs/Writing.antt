@@ -8,7 +8,7 @@ use lib.ListN.{length, drop}
 use Rattle.laws.specs.Choice.{pick}
 use Rattle.laws.specs.Refusals.{_when_, first}
 use Rattle.records.specs.Entries.{Five}
-use Rattle.records.specs.Refusals.{ownNumber, refusalsOf}
+use Rattle.records.specs.Refusals.{ownNumber, refusalsOfRecord}
 use Rattle.records.specs.declared.Record.{Record}
 use Rattle.codec.specs.Bytes.{recordLength, bytesOf}
 use Rattle.writing.specs.declared.WriteAnswer.{WriteAnswer}
@@ -21,16 +21,16 @@ writeNumber (Refused own) = ownNumber own
 writeNumber ShortOutput = 6
 
 -- 3 to 5, then 6
-unfoldable pub refusalOfWrite : Record → List ℕ → ℕ
-refusalOfWrite r out = first (refusalsOf r ++ 6 when ltb (length out) recordLength ∷ [])
+unfoldable pub refusalOfWriting : Record → List ℕ → ℕ
+refusalOfWriting r out = first (refusalsOfRecord r ++ 6 when ltb (length out) recordLength ∷ [])
 
 -- the 11 bytes and what stood past them; as it was where refused
 unfoldable pub outputOf : Record → List ℕ → List ℕ
-outputOf r out = pick (eqb (refusalOfWrite r out) 0) (bytesOf r ++ drop recordLength out) out
+outputOf r out = pick (eqb (refusalOfWriting r out) 0) (bytesOf r ++ drop recordLength out) out
 
 -- the promise of writing, with the output at entry and at exit
 pub record Writes (r : Record) (out : List ℕ) (a : WriteAnswer) (last : List ℕ) : Type 0 where
-  pub answer : writeNumber a ≡ refusalOfWrite r out
+  pub answer : writeNumber a ≡ refusalOfWriting r out
   pub left : last ≡ outputOf r out
   -- the type `[_; 5]` gives it
   pub five : Five r

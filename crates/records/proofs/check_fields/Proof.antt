@@ -24,5 +24,5 @@ check-fields-spec =
     (λ c κs. search needs)
     (λ c. rw (c .before .before .before .before .entry .given .1, ← c .before .before .outside-limits .ensures, ← c .before .not-zero .ensures) (c .first-of .ensures))
     (λ c. search visit-checked)
-    (λ c. unfold outsideLimits notZero in rw (c .before .before .enum-told2 .given .1, ← c .before .some-set-beyond .ensures) (c .first-of2 .ensures))
-    (λ c. unfold outsideLimits notZero in rw (c .before .before .enum-told3 .given .1, ← c .before .some-set-beyond2 .ensures) (c .first-of3 .ensures)))
+    (λ c. unfold outsideLimits notZero in rw (c .before .before .enum-told2 .given .1, ← c .before .some-not-zero-beyond-count .ensures) (c .first-of2 .ensures))
+    (λ c. unfold outsideLimits notZero in rw (c .before .before .enum-told3 .given .1, ← c .before .some-not-zero-beyond-count2 .ensures) (c .first-of3 .ensures)))

@@ -8,7 +8,7 @@ use Rattle.records.proofs.not_zero.Tie as tie
 
 -- a count that passed its test is 0: stated first, since a count passed over is wrong here
 missing-baseline : tie.Need-returns-4
-missing-baseline c = unfold notZero in rw (c .before .before .before .before .if1 .left, c .before .before .before .if2 .left) (search (tests, c .some-set-beyond2 .ensures))
+missing-baseline c = unfold notZero in rw (c .before .before .before .before .if1 .left, c .before .before .before .if2 .left) (search (tests, c .some-not-zero-beyond-count2 .ensures))
 
 pub not-zero-spec : {M : Type 1} → statement M
 not-zero-spec =
@@ -16,7 +16,7 @@ not-zero-spec =
     (tie.spec
     (λ c κs. search needs)
     (λ c κs. search needs)
-    (λ c. unfold notZero in rw (c .before .if1 .taken) (c .some-set-beyond .ensures))
+    (λ c. unfold notZero in rw (c .before .if1 .taken) (c .some-not-zero-beyond-count .ensures))
     (λ c. unfold notZero in rw (c .before .if1 .left, c .if2 .taken))
     (λ c. unfold notZero in rw (c .before .before .before .if1 .left, c .before .before .if2 .left) (search tests))
     missing-baseline)

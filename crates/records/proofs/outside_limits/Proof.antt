@@ -8,7 +8,7 @@ use Rattle.records.proofs.outside_limits.Tie as tie
 
 -- a count that passed its test is at most the most: stated first, since a count too many is wrong here
 counted : tie.Need-returns-3
-counted c = unfold outsideLimits withoutDisease in rw (c .before .before .before .before .before .if1 .taken) (search (tests, c .some-wrong-size .ensures, ← c .before .before .without-disease .ensures, c .before .if3 .left))
+counted c = unfold outsideLimits withoutDisease in rw (c .before .before .before .before .before .if1 .taken) (search (tests, c .some-size-outside-limits .ensures, ← c .before .before .without-disease .ensures, c .before .if3 .left))
 
 pub outside-limits-spec : {M : Type 1} → statement M
 outside-limits-spec =

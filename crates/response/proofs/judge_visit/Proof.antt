@@ -18,7 +18,7 @@ judge-visit-spec =
     (λ c κs. search needs)
     (λ c κs. search needs)
     (λ c.
-    let sum = c .before .before .before .before .before .measured-sum .ensures in
+    let sum = c .before .before .before .before .before .sum-of-diameters .ensures in
     let complete = c .before .before .before .before .all-measured .ensures in
     let t = c .before .before .before .target-answer .ensures _ refl refl in
     record {

@@ -1,7 +1,7 @@
 -- `adding::after::after_death` meets its contract.
 -- Assumes nothing.
 use borrow.Author.Needs.{needs}
-use Rattle.adding.specs.Added.{deathAdded}
+use Rattle.adding.specs.OneRecordMore.{deathAdded}
 use Rattle.adding.proofs.after.after_death.Statement.{statement}
 use Rattle.adding.proofs.after.after_death.Tie as tie
 

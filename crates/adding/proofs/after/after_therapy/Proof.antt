@@ -1,7 +1,7 @@
 -- `adding::after::after_therapy` meets its contract.
 -- Assumes nothing.
 use borrow.Author.Needs.{needs}
-use Rattle.adding.specs.Added.{therapyAdded}
+use Rattle.adding.specs.OneRecordMore.{therapyAdded}
 use Rattle.adding.proofs.after.after_therapy.Statement.{statement}
 use Rattle.adding.proofs.after.after_therapy.Tie as tie
 

@@ -42,7 +42,7 @@ use denote.Triple.Spec.{Meets, tripleOf}
 use denote.Triple.Table.{entered, cited}
 use denote.Triple.Walked.{says, Stays, stay-ref, stay-none, walkOf, AllGo, goes-none, goes-ref, Walks, ends-at, walked, walk-meets}
 use denote.Exit.{yes}
-use Rattle.adding.specs.Promises.{Added}
+use Rattle.adding.specs.Promises.{Adds}
 use Rattle.subject.specs.declared.Subject.{Subject}
 use Rattle.adding.specs.declared.AddResult.{AddResult}
 use Rattle.records.specs.declared.Record.{Record}
@@ -151,7 +151,7 @@ module _ {M : Type 1} (𝓤 : URA M) (H : Heap 𝓤) (A : Atoms 𝓤) (W : Given
   abbrev Post : Val → SProp 𝓤
   Post = walkOf 𝓤 H A add.ended stayed (add.clauses 𝓤 H A at-mem run) .post (((κ, tt), (q, tt), tt, x, at), tt)
 
-  exits : (n : AddResult) → Added h r (n .answer) (n .subject) → Is Y.the-row (n .answer) (answer-val (n .answer) ∷ []) → ent 𝓤 (sep 𝓤 (A .obs γ (T.the-row .coded .code (n .subject))) (sep 𝓤 (A .bor κ (Body (mem T.the-row) b o γ)) (A .lft κ q))) (Post (answer-val (n .answer)))
+  exits : (n : AddResult) → Adds h r (n .answer) (n .subject) → Is Y.the-row (n .answer) (answer-val (n .answer) ∷ []) → ent 𝓤 (sep 𝓤 (A .obs γ (T.the-row .coded .code (n .subject))) (sep 𝓤 (A .bor κ (Body (mem T.the-row) b o γ)) (A .lft κ q))) (Post (answer-val (n .answer)))
   exits n e is =
       qed W (‵ (fobs γ (T.the-row .coded .code (n .subject))) ∷ ‵ (fbor κ (Body (mem T.the-row) b o γ)) ∷ ‵ (flft κ q) ∷ []) ∵
       suffices ! _ (ends-at 𝓤 H A add.ended stayed (add.clauses 𝓤 H A at-mem run) W (((κ, tt), (q, tt), tt, x, at), tt) (answer-val (n .answer)) (n .answer) (n .subject, (tt, tt)) (tt, (tt, tt))) $
@@ -167,15 +167,15 @@ module _ {M : Type 1} (𝓤 : URA M) (H : Heap 𝓤) (A : Atoms 𝓤) (W : Given
   goes-in is =
       qed W [] ∵ nothing ! $ owned ! R.the-row (Is R.the-row) (LL.makes R.the-type R′.the-plain 𝓤 H A) r _ r-is $ join ! $ owned ! T.the-row (Is T.the-row) (LL.makes T.the-type T′.the-plain 𝓤 H A) h _ is $ join ! $ nothing ! $ join ! $ frame ! $ done !
 
-  comes-out : (n : AddResult) → ent 𝓤 (ensured 𝓤 H A by-value.ended (by-value.clauses 𝓤 H A at-mem run) tt (h, (r, tt)) tt n) (fact 𝓤 (Added h r (n .answer) (n .subject)))
-  comes-out n = exE 𝓤 _ (λ ws. snd∗ 𝓤 (sem 𝓤 H A (lasts by-value.ended tt (h, (r, tt)) ws)) (fact 𝓤 (Added h r (n .answer) (n .subject))))
+  comes-out : (n : AddResult) → ent 𝓤 (ensured 𝓤 H A by-value.ended (by-value.clauses 𝓤 H A at-mem run) tt (h, (r, tt)) tt n) (fact 𝓤 (Adds h r (n .answer) (n .subject)))
+  comes-out n = exE 𝓤 _ (λ ws. snd∗ 𝓤 (sem 𝓤 H A (lasts by-value.ended tt (h, (r, tt)) ws)) (fact 𝓤 (Adds h r (n .answer) (n .subject))))
 
   module _ (C : Calls 𝓤 H) (Λ : Loops 𝓤 H) (fm : FmC 𝓤 H (W .laws) C) (known : Triple 𝓤 (C #adding·calls·added) (ByValue 𝓤 H A at-mem run)) where
     walk : ent 𝓤 (onEntry 𝓤 H A add.signature (κ, tt) (q, tt) x at) (WpFn 𝓤 H C Λ code.function (vptr b o ∷ record-val r ∷ []) Post)
     walk =
         qed W ((‵ (flft κ q) ⊛ ‵ ftrue) ∷ ‵ (owns (MutRef (named 0) κ T.the-row ∷ R.the-row ∷ []) x at) ∷ []) ∵ split ! $ move ! (2 ∷ []) $ fsplit ! $ fsplit3 ! $ drop ! $ move ! (0 ∷ 1 ∷ 3 ∷ []) $ keep ! (0 ∷ 1 ∷ 2 ∷ []) $
         by ! (replaces 𝓤 H A W C Λ fm #adding·calls·added T.the-type T′.the-laws T′.the-plain R′.mir Y′.mir (N.the-type .name) N.the-row (λ n. n .subject) (λ n. answer-val (n .answer)) (ensured 𝓤 H A by-value.ended (by-value.clauses 𝓤 H A at-mem run) tt (h, (r, tt)) tt)
-        (λ n. Added h r (n .answer) (n .subject)) comes-out (λ n v is. ap only (LL.tells N.the-type N′.the-laws n (v ∷ []) is)) (λ n v is. LL.lawful N.the-type N′.the-laws 𝓤 H A W .typed n _ is .0)
+        (λ n. Adds h r (n .answer) (n .subject)) comes-out (λ n v is. ap only (LL.tells N.the-type N′.the-laws n (v ∷ []) is)) (λ n v is. LL.lawful N.the-type N′.the-laws 𝓤 H A W .typed n _ is .0)
         (λ n v is. EL.lawful Y.the-type Y′.the-laws 𝓤 H A W tt .typed (n .answer) _ (LL.owed N.the-type N′.the-laws n _ is .1 .0) .0) (λ n v is. LL.owed N.the-type N′.the-laws n _ is .0)
         κ q b o γ h (record-val r) (LL.lawful R.the-type R′.the-laws 𝓤 H A W .typed r _ r-is .0) (λ is. via 𝓤 _ (goes-in is) (known to-value)) Post (λ n v e is. exits n e (LL.owed N.the-type N′.the-laws n _ is .1 .0)))
 

@@ -1,6 +1,6 @@
 -- `outcome::settled::pfs_settled` meets its contract.
 -- Assumes nothing.
-use Rattle.outcome_rules.specs.Pfs.{earlyDeath}
+use Rattle.outcome_rules.specs.Pfs.{earlyDeathLimit}
 use Rattle.outcome_rules.specs.Settled.{settledFrom}
 use Rattle.outcome.proofs.Returns.{assessed-settled, missing-settled}
 use Rattle.outcome.proofs.settled.pfs_settled.Statement.{statement}
@@ -11,4 +11,4 @@ pfs-settled-spec =
     tie.close
     (tie.spec
     (λ c. search assessed-settled)
-    (λ c. unfold settledFrom earlyDeath in search missing-settled))
+    (λ c. unfold settledFrom earlyDeathLimit in search missing-settled))
