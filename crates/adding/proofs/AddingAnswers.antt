@@ -1,4 +1,4 @@
--- What adding answers, by value and from bytes, from what its parts tell each other.
+-- What adding answers, by value and from bytes, from what its parts promise each other.
 -- Assumes nothing.
 use mathlib.Core.Path.{_≡_, refl, sym, _∙_, ap}
 use mathlib.Core.Bool.{Bool, true, false, not}
@@ -133,16 +133,16 @@ module _ (s : Subject) (r : Record) (d : Dated) (x : Step) (y : AddResult) (insi
     (w : Steps inside (s .enrolment) (s .followup) (d .day) (addNumber (d .own)) (d .found .entry) (d .found .marks) (d .found .sizes) x)
     (q : (y .answer ≡ x .answer) × (y .subject ≡ record { enrolment = s .enrolment; followup = x .followup })) where
   -- the step's number
-  abbrev told : ℕ
-  told = refusalOfStepHeld inside (addNumber (d .own)) (first (refusalsOfEntryHeld (s .enrolment) (s .followup) (d .day) (d .found .entry) (d .found .marks)))
+  abbrev refusal : ℕ
+  refusal = refusalOfStepHeld inside (addNumber (d .own)) (first (refusalsOfEntryHeld (s .enrolment) (s .followup) (d .day) (d .found .entry) (d .found .marks)))
 
-  answered : (n : ℕ) → told ≡ n → (n ≡ 0 → (d .day ≡ studyDayHeld s r) × (d .found ≡ r)) → Answered s r n (y .answer) (y .subject)
+  answered : (n : ℕ) → refusal ≡ n → (n ≡ 0 → (d .day ≡ studyDayHeld s r) × (d .found ≡ r)) → Answered s r n (y .answer) (y .subject)
   answered n e same = go (eqb n 0) refl
     where
       go : (b : Bool) → eqb n 0 ≡ b → Answered s r n (y .answer) (y .subject)
       go true z =
           let k = same (eqb-true n 0 z) in
-          let none : eqb told 0 ≡ true = ap (λ (m : ℕ). eqb m 0) e ∙ z in
+          let none : eqb refusal 0 ≡ true = ap (λ (m : ℕ). eqb m 0) e ∙ z in
           record {
             answer = ap addNumber (q .0) ∙ w .answer ∙ e;
             responses =
@@ -155,7 +155,7 @@ module _ (s : Subject) (r : Record) (d : Dated) (x : Step) (y : AddResult) (insi
                 (λ i. record { enrolment = s .enrolment; followup = entryAdded (s .enrolment) (s .followup) (k .0 i) (k .1 i .entry) (k .1 i .marks) (k .1 i .sizes) });
           }
       go false z =
-          let met : eqb told 0 ≡ false = ap (λ (m : ℕ). eqb m 0) e ∙ z in
+          let met : eqb refusal 0 ≡ false = ap (λ (m : ℕ). eqb m 0) e ∙ z in
           record {
             answer = ap addNumber (q .0) ∙ w .answer ∙ e;
             responses = ap addResponses (q .0) ∙ w .responses ∙ rw (met, z);
@@ -197,17 +197,17 @@ module _ (s : Subject) (bytes : List ℕ) (d : Dated) (x : Step) (y : AddResult)
       go true z = let k = same (eqb-true (refusalOfBytes bytes) 0 z) in λ i. first (refusalsOfEntryHeld (s .enrolment) (s .followup) (k .0 i) (k .1 i .entry) (k .1 i .marks))
       go false z = refl
 
-  told-from : (b : Bool) → inside ≡ b → refusalOfStepHeld b (addNumber (d .own)) behind ≡ refusalOfStepHeld b (refusalOfBytes bytes) (first (refusalsOfRecordHeld s r))
+  refusal-from : (b : Bool) → inside ≡ b → refusalOfStepHeld b (addNumber (d .own)) behind ≡ refusalOfStepHeld b (refusalOfBytes bytes) (first (refusalsOfRecordHeld s r))
   unfolding enrolmentInRange
-  told-from false h = refl
-  told-from true h =
+  refusal-from false h = refl
+  refusal-from true h =
       let range = both-true (enrolmentInRange (s .enrolment)) (followUpInRange (s .followup)) (sym iq ∙ h) in
       own-then (addNumber (d .own)) (v .own (both-true (dateExists (s .enrolment .randomisation)) _ (range .0) .0))
 
   number : refusalOfStepHeld inside (addNumber (d .own)) behind ≡ refusalOfAddingBytesHeld s bytes
   unfolding refusalOfAddingBytesHeld inRange
   number =
-      told-from inside refl
+      refusal-from inside refl
       ∙ ap (λ (b : Bool). refusalOfStepHeld b (refusalOfBytes bytes) (first (refusalsOfRecordHeld s r))) iq
       ∙ twelve-first (inRange s) _
       ∙ ap (pick (not (inRange s)) 12) (sym (after-reading bytes (refusalsOfRecordHeld s r)))

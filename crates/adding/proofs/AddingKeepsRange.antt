@@ -31,7 +31,7 @@ use Rattle.subject.specs.declared.Enrolment.{Enrolment}
 use Rattle.subject.specs.declared.FollowUp.{FollowUp}
 use Rattle.subject.specs.declared.CountingVisits.{CountingVisits}
 use Rattle.subject.specs.Laws.{Within, AbsentOrWithin, CountingWithin, FollowUpWithin}
-use Rattle.subject.proofs.RangeLaws.{event-within, counted-within}
+use Rattle.subject.proofs.RangeLaws.{event-within, counting-within}
 use Rattle.adding.specs.OneRecordMore.{heldDay, judgedHeld, countingClosedHeld, visitAdded, onLaterDay, therapyAdded, deathAdded, entryAdded}
 use Rattle.adding.specs.Refusals.{tooEarlyHeld, refusalsOfEntryHeld}
 
@@ -98,12 +98,12 @@ adding-within e f (E.Visit v) marks sizes w r =
       latestday = day;
       deathday = w .deathday;
       event = event-within j day (f .event) (w .event);
-      counting = counted-or-not (countingClosedHeld f) (counted-within j day (f .counting) (w .counting));
+      counting = counting-or-not (countingClosedHeld f) (counting-within j day (f .counting) (w .counting));
     }
   where
-    counted-or-not : {c : CountingVisits} (x : Bool) → CountingWithin c → CountingWithin (pick x (f .counting) c)
-    counted-or-not true k = w .counting
-    counted-or-not false k = k
+    counting-or-not : {c : CountingVisits} (x : Bool) → CountingWithin c → CountingWithin (pick x (f .counting) c)
+    counting-or-not true k = w .counting
+    counting-or-not false k = k
 adding-within e f (E.Therapy d) marks sizes w r =
     let day = on-or-after (e .randomisation) f d w (not-early e f (heldDay (e .randomisation) d) (E.Therapy d) marks r) in
     later-within f _ true (f .deathday) w day (w .deathday)

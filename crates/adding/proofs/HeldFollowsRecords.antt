@@ -25,7 +25,7 @@ use Rattle.subject.specs.Days.{at, maybe}
 use Rattle.subject.specs.OneVisitMore.{countingAfter}
 use Rattle.subject.specs.Summary.{eventOf, countingOf, summary}
 use Rattle.subject.proofs.CountingDaysFall.{Falling, counting-falls}
-use Rattle.subject.proofs.HeldFollowsVisits.{day-of-maybe, event-follows, counted-follows}
+use Rattle.subject.proofs.HeldFollowsVisits.{day-of-maybe, event-follows, counting-follows}
 use Rattle.adding.specs.OneRecordMore.{heldDay, overallHeld, visitAdded, onLaterDay, therapyAdded, deathAdded, entryAdded}
 use Rattle.adding.specs.Responses.{linesHeld}
 use Rattle.adding.specs.Refusals.{refusalsOfEntryHeld}
@@ -59,7 +59,7 @@ module _ (randomisation : Date) (b : Baseline) (p : Past) where
     where
       go : (y : Bool) → pick y (countingOf (countingVisits c)) (countingAfter (countingOf (countingVisits c)) j) ≡ countingOf (pick y (countingVisits c) (j ∷ countingVisits c))
       go true = refl
-      go false = counted-follows j (countingVisits c) s
+      go false = counting-follows j (countingVisits c) s
 
   pub adding-follows : (e : Entry) (marks : List Bool) (sizes : List ℕ) → lawfulBehind b (entryOnStudyDay randomisation e marks sizes ∷ p) ≡ true →
       _≡_ {A = Subject}

@@ -85,8 +85,8 @@ module _ (x y a : Bool) (p : a ≡ x) where
 
 -- ---- the follow-up after a visit
 
-pub counted-or-closed : (closed : Bool) (c r : CountingVisits) (j : Judged) → closed ≡ false → r ≡ countingAfter c j → r ≡ pick closed c (countingAfter c j)
-counted-or-closed closed c r j q h = h ∙ rw q
+pub counting-or-closed : (closed : Bool) (c r : CountingVisits) (j : Judged) → closed ≡ false → r ≡ countingAfter c j → r ≡ pick closed c (countingAfter c j)
+counting-or-closed closed c r j q h = h ∙ rw q
 
 pub visit-made : (f : FollowUp) (day : StudyDay) (a : VisitAnswer) (x : Bool) (e : EventDays) (c : CountingVisits) →
     x ≡ isRecorded (dayValue (f .event .progression)) → e ≡ eventAfter (f .event) (judgedAs day a) →

@@ -13,8 +13,8 @@ use Rattle.records.specs.declared.OwnRefusal.the-variants as N
 use Rattle.records.specs.declared.Status.the-variants as S
 use Rattle.response_rules.specs.Words.{CR, PR, PD, NE, NA, NN}
 use Rattle.response_rules.specs.Change.{none, signed}
-use Rattle.response_rules.specs.declared.Target.the-variants as T
-use Rattle.response_rules.specs.declared.Overall.the-variants as O
+use Rattle.response_rules.specs.declared.TargetAnswer.the-variants as T
+use Rattle.response_rules.specs.declared.OverallAnswer.the-variants as O
 use Rattle.response_rules.specs.declared.ChangeAnswer.the-variants as C
 use Rattle.outcome_rules.specs.declared.BestResponse.the-variants as B
 use Rattle.outcome_rules.specs.declared.MaybeDay.the-variants as M

@@ -5,8 +5,8 @@ use records::OwnRefusal;
 use records::Record;
 use records::Status;
 use response_rules::ChangeAnswer;
-use response_rules::Overall;
-use response_rules::Target;
+use response_rules::OverallAnswer;
+use response_rules::TargetAnswer;
 use subject::FollowUp;
 use subject::Subject;
 ghost use mathlib.Core.Path.{_≡_};
@@ -26,13 +26,12 @@ pub use calls::added;
 // The responses at a visit, which its line of the listing has too.
 pub struct VisitResponse {
     pub day: StudyDay,
-    pub target: Target,
+    pub target: TargetAnswer,
     pub nontarget: Status,
-    pub overall: Overall,
+    pub overall: OverallAnswer,
     pub change: ChangeAnswer,
 }
 
-// What adding answers.
 pub enum AddAnswer {
     // A therapy or a death was added.
     Done,
@@ -46,7 +45,6 @@ pub enum AddAnswer {
     TooEarly,
     Misfit,
     OutOfRange,
-    // The record's own refusal.
     Refused(OwnRefusal),
 }
 

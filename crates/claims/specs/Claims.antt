@@ -34,7 +34,7 @@ pub record Claims : Type 1 where
   pub demand3 : Demand3
   pub held : HeldAfterCalls
   pub calls : CallLaws
-  -- "Change in size, file and listing": rounding; a file is judged as its records are one by one; the printed listing, and how long one can be
+  -- "Change in size, file and listing": rounding; a file is judged as the calls on its records are; the printed listing, and how long one can be
   pub change : ChangeLaws
   pub file : FileAsCalls
   pub lines : LinesAtTheEdges

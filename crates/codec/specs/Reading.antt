@@ -63,7 +63,7 @@ baselineFrom f = record {
   spare = ltb 0 (getD f 17 0);
 }
 
--- what a visit has; whether they are a visit's is told by the kind, and the date stands at the same place in every kind
+-- what a visit has; the kind decides whether they are a visit's, and the date stands at the same place in every kind
 abbrev pub visitFieldsFrom : List ℕ → VisitFields
 visitFieldsFrom f = record {
   isvisit = eqb (getD f 0 0) 2;

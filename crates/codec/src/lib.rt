@@ -66,7 +66,7 @@ fn refused(answer: ReadAnswer) -> ReadResult
     }
 }
 
-// A record that was read, by what its own refusals said of it.
+// A record that was read, by the answer of its own refusals.
 fn answered(answer: CheckAnswer, found: Record) -> ReadResult
     ensures { λ x. ⌜ ((w : Raw) → checkNumber answer ≡ first (refusalsOfRaw w) → found ≡ w .read → JudgesRead w x) ⌝ }
 {

@@ -30,7 +30,7 @@ commonDays = 0 ∷ 31 ∷ 28 ∷ 31 ∷ 30 ∷ 31 ∷ 30 ∷ 31 ∷ 31 ∷ 30 �
 unfoldable pub daysInMonth : Bool → ℕ → ℕ
 daysInMonth leap m = pick (ltb 12 m) 0 (pick (both (eqb m 2) leap) 29 (getD commonDays m 0))
 
--- the date is in the calendar and in range: what refusal 3 asks
+-- the date is in the calendar and in range: where it is not, refusal 3 meets
 unfoldable pub dateExists : Date → Bool
 dateExists d =
     both (leb firstYear (d .year))

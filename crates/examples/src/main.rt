@@ -177,7 +177,7 @@ fn later_visits() {
     );
 }
 
-// Targets told apart by their marks and sizes.
+// Targets that differ in their marks and sizes.
 fn several_targets() {
     // Targets 21, 32, 43, 54 and 65, of which the first, third and fifth are nodes, and non-target disease; visits on days 43 (11, 22, not measured, 44, 50), 85 (15, 22,
     // 30, 37, 46), 127 (9, 0, 9, 0, 9) and 169 (9, 6, 9, 0, 9), all NN.

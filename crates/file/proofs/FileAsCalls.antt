@@ -37,7 +37,7 @@ use Rattle.file.specs.FileAsCalls.{firstNumber, AddsParts, none, adds, C
 use Rattle.file.proofs.VerdictsApart.{apart, accepted-same}
 use Rattle.codec.proofs.PartsJoined.{length-parts, cut}
 use Rattle.file.proofs.CallsHaveAnswers.{called}
-use Rattle.file.proofs.FileFollowsRecords.{Taken, none-read, alone, opened-taken, adding, more, lines-more, EndsBy, told-verdict}
+use Rattle.file.proofs.FileFollowsRecords.{Taken, none-read, alone, opened-taken, adding, more, lines-more, EndsBy, read-verdict}
 
 -- reading's number, then the other, is the part's refusal
 read-then : (part : List ℕ) (x : ReadResult) (n : ℕ) (others : List Refusal) → Reads part x → n ≡ first others →
@@ -184,7 +184,7 @@ module _ (s : List ℕ) {ns : List ℕ} {ls : List VisitLine} {t : Subject} (c :
     otherwise : {q : OutcomeAnswer} → ReadsOutcome t q → EndsBy (verdictOf s) (length s / recordLength - 1) q
     otherwise w =
         let same : 0 + length (partsOf s) - 1 ≡ length s / recordLength - 1 = omega (arith, length-parts (length s / recordLength) s) in
-        rw (end .verdict ∙ ap (verdictOn (onStudyDays (end .all))) same) (told-verdict (end .taken) (length s / recordLength - 1) w)
+        rw (end .verdict ∙ ap (verdictOn (onStudyDays (end .all))) same) (read-verdict (end .taken) (length s / recordLength - 1) w)
 
 module _ (s : List ℕ) {ns : List ℕ} {ls : List VisitLine} {t : Subject} {q : OutcomeAnswer} {o : Outcome} (e : verdictOf s ≡ accepted o) (c : CallsOnParts (partsOf s) ns ls t) (w : ReadsOutcome t q) where
   fair : badLength (length s) ≡ false

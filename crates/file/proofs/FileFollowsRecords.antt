@@ -44,7 +44,7 @@ use Rattle.outcome.specs.declared.OutcomeAnswer.{OutcomeAnswer}
 use Rattle.outcome.specs.ReadingOutcome.{pfsHeld, durationHeld, outcomeOf, outcome, readingValues, ReadsOutcome}
 use Rattle.outcome.proofs.CallsFollowRecords.{pfs-held, duration-held, outcome-held}
 use Rattle.outcome.proofs.CallsInRange.{calls-in-range, reading-in-range}
-use Rattle.outcome.proofs.Demand3.{opened-with, base, on-day, past, past-one-more, Held, number, responses, grown}
+use Rattle.outcome.proofs.Demand3.{opened-with, base, on-day, past, past-one-more, Held, number, responses, one-more-held}
 use Rattle.file.specs.declared.FileAnswer.{FileAnswer}
 use Rattle.file.specs.Verdict.{refusalOfPart, Verdict, refused, accepted, unlessRefused, startsLate, verdictOn, fileValues}
 use Rattle.file.specs.Ending.{verdictHeld, EndsFile}
@@ -69,7 +69,7 @@ taken-more h r added accepts =
       sizes = h .sizes;
       later = h .later ++ (r ∷ []);
       opens = ap (λ (l : List Record). l ++ (r ∷ [])) (h .opens);
-      held = grown (h .entry) (h .marks) (h .sizes) (h .later) r (h .held) added accepts;
+      held = one-more-held (h .entry) (h .marks) (h .sizes) (h .later) r (h .held) added accepts;
       passes = h .passes;
     }
 
@@ -157,7 +157,7 @@ module _ {rs : List Record} {s t : Subject} {part : List ℕ} {a : AddAnswer} (h
 
 -- ---- behind the last record
 
--- 14, or the outcome that a reading tells
+-- 14, or the outcome of a reading
 abbrev pub EndsBy : Verdict → ℕ → OutcomeAnswer → Type 0
 EndsBy v last q = (v ≡ refused 14 last) ⊎ ((o : Outcome) × (readingValues q ≡ outcome o) × (v ≡ accepted o))
 
@@ -191,8 +191,8 @@ module _ {rs : List Record} {s : Subject} (t : Taken rs s) (last : ℕ) where
   verdict-taken : verdictIn s ≡ verdictOn (onStudyDays rs) last
   verdict-taken = ap verdictIn (t .held .same) ∙ verdict-held ∙ ap (λ (l : List Record). verdictOn (onStudyDays l) last) (sym (t .opens))
 
-  pub told-verdict : {q : OutcomeAnswer} → ReadsOutcome s q → EndsBy (verdictOn (onStudyDays rs) last) last q
-  told-verdict {q} w = rw (← verdict-taken) (go (startsLate (durationHeld s) (dayValue (s .followup .counting .firstresponse)) (pfsHeld s)))
+  pub read-verdict : {q : OutcomeAnswer} → ReadsOutcome s q → EndsBy (verdictOn (onStudyDays rs) last) last q
+  read-verdict {q} w = rw (← verdict-taken) (go (startsLate (durationHeld s) (dayValue (s .followup .counting .firstresponse)) (pfsHeld s)))
     where
       go : (late : Bool) → EndsBy (unlessRefused (14 when late ∷ []) last (accepted (outcomeOf s))) last q
       go true = inl refl

@@ -73,8 +73,8 @@ module _ (s : Subject) (last : ℕ) where
     read-outcome : outcomeValues r ≡ outcomeOf s
     unfolding readingOf
     read-outcome =
-        let told : outcome (outcomeValues r) ≡ readingOf s = rw q at (w .answer) in
-        let whole : outcome (outcomeValues r) ≡ outcome (outcomeOf s) = told ∙ rw inside in
+        let read : outcome (outcomeValues r) ≡ readingOf s = rw q at (w .answer) in
+        let whole : outcome (outcomeValues r) ≡ outcome (outcomeOf s) = read ∙ rw inside in
         ap (outcomeIn (outcomeOf s)) whole
 
     late-held : x ≡ startsLate (durationHeld s) (dayValue (s .followup .counting .firstresponse)) (pfsHeld s)

@@ -1,5 +1,5 @@
 -- Document 01, "Change in size, file and listing": where a file is accepted, its outcome and marks are those read after opening with its first record and
--- adding the others singly, and the lines of its visits are the responses that the additions answer, in order (demand 2); where 13 does not meet it, its
+-- adding the others singly (document 01's word), and the lines of its visits are the responses that the additions answer, in order (demand 2); where 13 does not meet it, its
 -- first refusal among 2 to 11 is the one that reading, opening or adding gives, at that index.
 -- Proved in proofs/FileAsCalls.antt.
 -- Assumes nothing.
@@ -55,7 +55,7 @@ abbrev pub firstStop : ℕ → List ℕ → Stop
 firstStop k [] = never
 firstStop k (n ∷ ns) = pick (eqb n 0) (firstStop (suc k) ns) (at n k)
 
--- answers of the calls on a file's parts one by one, and of the reading behind them
+-- answers of the calls on a file's parts in their order, and of the reading behind them
 pub record PartsCalled (ps : List (List ℕ)) : Type 0 where
   pub numbers : List ℕ
   pub responses : List VisitLine

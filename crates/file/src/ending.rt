@@ -20,7 +20,7 @@ fn is_after(first: MaybeDay, pfs: PfsResult) -> bool
     }
 }
 
-// A response, where a duration is told of it, that starts after PFS ends.
+// Refusal 14; without a duration there is no response to start.
 fn starts_late(duration: DurationAnswer, first: MaybeDay, pfs: PfsResult) -> bool
     ensures { λ r. ⌜ r ≡ startsLate (durationValues duration) (dayValue first) (pfsValues pfs) ⌝ }
 {

@@ -1,5 +1,5 @@
 // A file of records judged: its refusal with the index of a record, or its outcome with the settled marks (document 01, "Change in size,
-// file and listing" and "Where a call stops", 13 and 14). That it is judged as its records are one by one is proved here.
+// file and listing" and "Where a call stops", 13 and 14). That it is judged as the calls on its records are is proved here.
 use codec::RECORD_LENGTH;
 use outcome::OutcomeResult;
 ghost use mathlib.Core.Path.{_≡_};

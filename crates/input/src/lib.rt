@@ -47,7 +47,7 @@ fn read_into(bytes: &mut [u8]) -> Input
     }
 }
 
-// An endless input ends too, and a read that fails is told from an end of input.
+// An endless input ends too, and a read that fails is no end of input.
 pub fn read_input(bytes: &mut [u8; 65536]) -> Input
     ensures { λ x. ⌜ Received (now (bytes .entry)) x (now (bytes .exit)) ⌝ }
 {

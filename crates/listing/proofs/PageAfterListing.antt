@@ -30,13 +30,13 @@ from-start page text left n h w =
     let z : 0 + length text ≡ length text = zero-add (length text) in
     (w .place ∙ z, w .stored ∙ sets-eq text page 0 (rw z h) ∙ ap (λ (k : ℕ). text ++ drop k page) z)
 
--- what is asked where a file is refused or accepted
+-- what is needed where a file is refused or accepted
 pub small-index : (a : FileAnswer) (r : FileRefusal) → a ≡ F.Refused r → SmallIndex (fileValues a) → r .index < 100000
 small-index a r q h = rw q at h
 
 module _ (s page : List ℕ) (a : FileAnswer) (m : ℕ) (page₁ : List ℕ) (w : JudgesInto s page a m page₁) (size : length page ≡ longestListing) where
-  pub told-within : (o : OutcomeResult) → a ≡ F.Accepted o → ReadingWithin (outcome (outcomeValues o))
-  told-within o q = w .lines (outcomeValues o) (sym (w .answer) ∙ rw q) .0
+  pub reading-within : (o : OutcomeResult) → a ≡ F.Accepted o → ReadingWithin (outcome (outcomeValues o))
+  reading-within o q = w .lines (outcomeValues o) (sym (w .answer) ∙ rw q) .0
 
   -- the bytes that were there, copied over the text that was written, restore the page
   restored : (page₂ : List ℕ) → page₂ ≡ take m page ++ drop m page₁ → page₂ ≡ page

@@ -8,8 +8,8 @@ use native.Mathlib.Omega.{arith}
 use lib.ListN.{length, length-append}
 use lib.Seq.{sets}
 use Rattle.response_rules.specs.Words.{Word, CR, PR, SD, PD, NE, NA, NN, targetWord, statusWord, overallWord}
-use Rattle.response_rules.specs.declared.Target.{Target}
-use Rattle.response_rules.specs.declared.Overall.{Overall}
+use Rattle.response_rules.specs.declared.TargetAnswer.{TargetAnswer}
+use Rattle.response_rules.specs.declared.OverallAnswer.{OverallAnswer}
 use Rattle.records.specs.declared.Status.{Status}
 use Rattle.outcome_rules.specs.declared.BestResponse.{BestResponse}
 use Rattle.outcome_rules.specs.Values.{bestWord}
@@ -49,14 +49,14 @@ pub word : {o : List ℕ} {at : ℕ} {r : ℕ} {o₁ : List ℕ} (w : Word) (pai
 word w pair e h = as-text (ap (λ (n : ℕ). 32 ∷ n / 256 ∷ n % 256 ∷ []) e ∙ ap (λ (t : List ℕ). 32 ∷ t) (letters-text w)) h
 
 -- the letters of one case of an answer
-pub of-target : (t k : Target) (n : ℕ) → t ≡ k → n ≡ letters (targetWord k) → n ≡ letters (targetWord t)
-of-target t k n q e = e ∙ sym (ap (λ (x : Target). letters (targetWord x)) q)
+pub of-target : (t k : TargetAnswer) (n : ℕ) → t ≡ k → n ≡ letters (targetWord k) → n ≡ letters (targetWord t)
+of-target t k n q e = e ∙ sym (ap (λ (x : TargetAnswer). letters (targetWord x)) q)
 
 pub of-status : (s k : Status) (n : ℕ) → s ≡ k → n ≡ letters (statusWord k) → n ≡ letters (statusWord s)
 of-status s k n q e = e ∙ sym (ap (λ (x : Status). letters (statusWord x)) q)
 
-pub of-overall : (o k : Overall) (n : ℕ) → o ≡ k → n ≡ letters (overallWord k) → n ≡ letters (overallWord o)
-of-overall o k n q e = e ∙ sym (ap (λ (x : Overall). letters (overallWord x)) q)
+pub of-overall : (o k : OverallAnswer) (n : ℕ) → o ≡ k → n ≡ letters (overallWord k) → n ≡ letters (overallWord o)
+of-overall o k n q e = e ∙ sym (ap (λ (x : OverallAnswer). letters (overallWord x)) q)
 
 pub of-best : (b k : BestResponse) (n : ℕ) → b ≡ k → n ≡ letters (bestWord k) → n ≡ letters (bestWord b)
 of-best b k n q e = e ∙ sym (ap (λ (x : BestResponse). letters (bestWord x)) q)

@@ -45,7 +45,7 @@ pub record Printing (l page₀ page : List ℕ) (s : Subject) (at k : ℕ) : Typ
   pub standing : Standing l s k
   pub written : Wrote page₀ 0 (linesText (linesInOrder (onStudyDays (standing .before)))) at page
 
--- of a refused file nothing is said of the text
+-- of a refused file nothing is promised of the text
 module _ (l page left : List ℕ) (a : FileAnswer) (m : ℕ) where
   refused-into : (n k : ℕ) → JudgesFile l a → fileValues a ≡ refused n k → k < 100000 → m ≤ mostLines → (text : List ℕ) → Wrote page 0 text m left → JudgesInto l page a m left
   refused-into n k w e h b text u =
@@ -118,8 +118,8 @@ module _ (l page₀ page : List ℕ) (s : Subject) (at k : ℕ) (w : Printing l 
   unfolding verdictHeld
   inside = v .answer ∙ rw (w .standing .taken .held .inside)
 
-  tells : ReadingWithin (outcome (outcomeOf s))
-  tells =
+  reading-inside : ReadingWithin (outcome (outcomeOf s))
+  reading-inside =
       let read = readable s in
       subst ReadingWithin (read .1 .answer ∙ reading-in-range s (w .standing .taken .held .inside)) (calls-in-range .outcomeRead (read .1) (w .standing .taken .held .inside))
 
@@ -135,7 +135,7 @@ module _ (l page₀ page : List ℕ) (s : Subject) (at k : ℕ) (w : Printing l 
     where
       go : (late : Bool) → unlessRefused (14 when late ∷ []) (k - 1) (accepted (outcomeOf s)) ≡ accepted o → ReadingWithin (outcome o)
       go true q = absurd (apart refl q)
-      go false q = subst (λ (u : Outcome). ReadingWithin (outcome u)) (accepted-same q) tells
+      go false q = subst (λ (u : Outcome). ReadingWithin (outcome u)) (accepted-same q) reading-inside
 
   every-record : w .standing .before ≡ map recordOfBytes (partsOf l)
   every-record =

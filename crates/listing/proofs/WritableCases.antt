@@ -1,4 +1,4 @@
--- What is asked of one case of an answer, from what is asked of the answer.
+-- What one case of an answer has to be in order to be written, from what the answer has to be.
 -- Assumes nothing.
 use mathlib.Core.Path.{_≡_}
 use Prim.Native.Nat.{ℕ, _<_}

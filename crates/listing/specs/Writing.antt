@@ -26,7 +26,7 @@ pub record Wrote (page : List ℕ) (at : ℕ) (text : List ℕ) (next : ℕ) (le
 abbrev pub letters : Word → ℕ
 letters w = firstLetter w * 256 + secondLetter w
 
--- what is asked of a visit's line before it is written: numbers of at most five digits
+-- what a visit's line has to be before it is written: numbers of at most five digits
 pub record Writable (l : VisitLine) : Type 0 where
   pub day : l .day < 100000
   pub change : l .change .tenths < 100000

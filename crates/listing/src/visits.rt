@@ -12,8 +12,8 @@ use adding::AddAnswer;
 use adding::VisitResponse;
 use records::Status;
 use response_rules::ChangeAnswer;
-use response_rules::Overall;
-use response_rules::Target;
+use response_rules::OverallAnswer;
+use response_rules::TargetAnswer;
 ghost use mathlib.Core.Path.{_≡_};
 ghost use mathlib.Core.List.{[], _∷_, _++_};
 ghost use Prim.Native.Nat.{_+_, _≤_, _<_};
@@ -66,9 +66,9 @@ fn put_start(page: &mut [u8], at: usize, day: u32) -> usize
 fn put_answers(
     page: &mut [u8],
     at: usize,
-    target: Target,
+    target: TargetAnswer,
     status: Status,
-    overall: Overall,
+    overall: OverallAnswer,
 ) -> usize
     requires { ⌜ at + 9 ≤ length (now page) ⌝ }
     ensures { λ r. ⌜ Wrote (now (page .entry)) at (32 ∷ (wordText (targetWord target) ++ (32 ∷ (wordText (statusWord status) ++ (32 ∷ wordText (overallWord overall)))))) r (now (page .exit)) ⌝ }

@@ -4,8 +4,8 @@ use super::page::put_three;
 use outcome_rules::BestResponse;
 use outcome_rules::PfsStatus;
 use records::Status;
-use response_rules::Overall;
-use response_rules::Target;
+use response_rules::OverallAnswer;
+use response_rules::TargetAnswer;
 ghost use mathlib.Core.Path.{_≡_};
 ghost use mathlib.Core.List.{[], _∷_};
 ghost use Prim.Native.Nat.{_+_, _≤_, _/_, _%_};
@@ -30,16 +30,16 @@ const NA: u16 = 0x4E41;
 
 const NN: u16 = 0x4E4E;
 
-pub(crate) fn target_letters(target: Target) -> u16
+pub(crate) fn target_letters(target: TargetAnswer) -> u16
     ensures { λ r. ⌜ r ≡ letters (targetWord target) ⌝ }
 {
     match target {
-        Target::NA => NA,
-        Target::CR => CR,
-        Target::PD => PD,
-        Target::NE => NE,
-        Target::PR => PR,
-        Target::SD => SD,
+        TargetAnswer::NA => NA,
+        TargetAnswer::CR => CR,
+        TargetAnswer::PD => PD,
+        TargetAnswer::NE => NE,
+        TargetAnswer::PR => PR,
+        TargetAnswer::SD => SD,
     }
 }
 
@@ -55,15 +55,15 @@ pub(crate) fn status_letters(status: Status) -> u16
     }
 }
 
-pub(crate) fn overall_letters(overall: Overall) -> u16
+pub(crate) fn overall_letters(overall: OverallAnswer) -> u16
     ensures { λ r. ⌜ r ≡ letters (overallWord overall) ⌝ }
 {
     match overall {
-        Overall::CR => CR,
-        Overall::PR => PR,
-        Overall::SD => SD,
-        Overall::PD => PD,
-        Overall::NE => NE,
+        OverallAnswer::CR => CR,
+        OverallAnswer::PR => PR,
+        OverallAnswer::SD => SD,
+        OverallAnswer::PD => PD,
+        OverallAnswer::NE => NE,
     }
 }
 

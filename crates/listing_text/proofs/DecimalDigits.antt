@@ -1,4 +1,4 @@
--- The digits of a number: how many they are, which they are for the numbers below 100,000, and that they tell it.
+-- The digits of a number: how many they are, which they are for the numbers below 100,000, and that they have its value.
 -- Assumes nothing.
 use mathlib.Core.Path.{_≡_, refl, _∙_, ap}
 use mathlib.Core.Bool.{Bool, true, false}
@@ -91,15 +91,15 @@ module _ (n : ℕ) where
   unfolding decimal
   five-digits l h = five 15 n l h
 
--- ---- what they tell
+-- ---- their value
 
-told-behind : (sofar : ℕ) (ds : List ℕ) (d : ℕ) → decimalValue sofar (ds ++ (d ∷ [])) ≡ 10 * decimalValue sofar ds + (d - 48)
-told-behind sofar [] d = refl
-told-behind sofar (c ∷ ds) d = told-behind (10 * sofar + (c - 48)) ds d
+value-behind : (sofar : ℕ) (ds : List ℕ) (d : ℕ) → decimalValue sofar (ds ++ (d ∷ [])) ≡ 10 * decimalValue sofar ds + (d - 48)
+value-behind sofar [] d = refl
+value-behind sofar (c ∷ ds) d = value-behind (10 * sofar + (c - 48)) ds d
 
-digits-tell : (k n : ℕ) → n < 10 ^ k → decimalValue 0 (digits k n) ≡ n
-digits-tell zero n h = omega arith
-digits-tell (suc k) n h = go (ltb n 10) refl (digits-tell k (n / 10))
+digits-value : (k n : ℕ) → n < 10 ^ k → decimalValue 0 (digits k n) ≡ n
+digits-value zero n h = omega arith
+digits-value (suc k) n h = go (ltb n 10) refl (digits-value k (n / 10))
   where
     go : (b : Bool) → ltb n 10 ≡ b → (n / 10 < 10 ^ k → decimalValue 0 (digits k (n / 10)) ≡ n / 10) →
         decimalValue 0 (pick b (digit n ∷ []) (digits k (n / 10) ++ (digit (n % 10) ∷ []))) ≡ n
@@ -107,8 +107,8 @@ digits-tell (suc k) n h = go (ltb n 10) refl (digits-tell k (n / 10))
     go false q fewer =
         let e = pow-suc 10 k in
         let f = fewer (omega arith) in
-        told-behind 0 (digits k (n / 10)) (digit (n % 10)) ∙ (let w : 10 * decimalValue 0 (digits k (n / 10)) + (48 + n % 10 - 48) ≡ n = omega arith in w)
+        value-behind 0 (digits k (n / 10)) (digit (n % 10)) ∙ (let w : 10 * decimalValue 0 (digits k (n / 10)) + (48 + n % 10 - 48) ≡ n = omega arith in w)
 
-pub decimal-tells : (n : ℕ) → n < 10 ^ 20 → decimalValue 0 (decimal n) ≡ n
+pub decimal-value : (n : ℕ) → n < 10 ^ 20 → decimalValue 0 (decimal n) ≡ n
 unfolding decimal
-decimal-tells n h = digits-tell 20 n h
+decimal-value n h = digits-value 20 n h

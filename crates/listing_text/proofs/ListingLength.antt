@@ -32,14 +32,14 @@ use Rattle.outcome.specs.Laws.{DurationWithin, ReadingWithin}
 use Rattle.outcome.proofs.CallsInRange.{calls-in-range}
 use Rattle.outcome.proofs.CallsHaveAnswers.{opens, readable}
 use Rattle.outcome.proofs.AdditionsHaveAnswers.{some-addition}
-use Rattle.outcome.proofs.Demand3.{opened-with, base, on-day, past, past-one-more, Held, grown, reading}
+use Rattle.outcome.proofs.Demand3.{opened-with, base, on-day, past, past-one-more, Held, one-more-held, reading}
 use Rattle.codec.specs.Parts.{mostRecords, badLength, parts, partsOf}
 use Rattle.file.specs.Verdict.{refusalOfPart, refused, accepted, unlessRefused, responseStartsLate, verdictFrom, verdictOf}
 use Rattle.file.proofs.FileFollowsRecords.{none-read, opened-taken}
 use Rattle.codec.proofs.PartsJoined.{fair-length, length-parts}
 use Rattle.listing_text.specs.Text.{outcomeText, refusalText, linesText, listingText, listingOf, longestListing}
 use Rattle.listing_text.specs.Laws.{Lengths}
-use Rattle.listing_text.proofs.DecimalDigits.{decimal-tells}
+use Rattle.listing_text.proofs.DecimalDigits.{decimal-value}
 use Rattle.listing_text.proofs.TextLengths.{refusal-length, outcome-length}
 use Rattle.listing_text.proofs.VisitLengths.{line-short, visits-length}
 use Rattle.listing_text.proofs.RefusalDigits.{part-small}
@@ -75,8 +75,8 @@ module _ (x : BaselineEntry) (marks : List Bool) (sizes : List ℕ) (passes : fi
     unfolding summary
     latest-within = subst (λ (t : Subject). Within (t .followup .latestday .0)) (h .held .same) (subject-within s (h .held .inside) .followup .latestday)
 
-    told-within : Within (outcome b (behind later) .pfs .day) × DurationWithin (outcome b (behind later) .duration)
-    told-within =
+    reading-within : Within (outcome b (behind later) .pfs .day) × DurationWithin (outcome b (behind later) .duration)
+    reading-within =
         let read = readable s in
         subst ReadingWithin (reading x marks sizes later (h .held) (read .1)) (calls-in-range .outcomeRead (read .1) (h .held .inside))
 
@@ -84,7 +84,7 @@ module _ (x : BaselineEntry) (marks : List Bool) (sizes : List ℕ) (passes : fi
     accepted-short =
         let latest = latest-within in
         let lines = visits-length b (behind later) passes (h .pass) (h .held .lawfully) (omega arith) in
-        let rest = outcome-length (outcome b (behind later)) (told-within .0) (told-within .1) in
+        let rest = outcome-length (outcome b (behind later)) (reading-within .0) (reading-within .1) in
         omega (
           arith,
           length-append (linesText (visitLines b (behind later))) (outcomeText (outcome b (behind later))),
@@ -117,7 +117,7 @@ module _ (x : BaselineEntry) (marks : List Bool) (sizes : List ℕ) (passes : fi
       one-more =
           let added = some-addition s r .1 in
           record {
-            held = grown x marks sizes later r (h .held) added (ap (λ (n : ℕ). eqb n 0) accepts);
+            held = one-more-held x marks sizes later r (h .held) added (ap (λ (n : ℕ). eqb n 0) accepts);
             pass = ap allPass (past-one-more x marks sizes later r) ∙ rw passed (h .pass);
           }
 
@@ -182,4 +182,4 @@ listing-short s = go (badLength (length s)) refl
         rw one (file-short _ rest (omega (arith, length-parts (length s / recordLength - 1) (drop recordLength s))))
 
 pub lengths : Lengths
-lengths = record { valueOfDecimal = decimal-tells; line = line-short; listing = listing-short }
+lengths = record { valueOfDecimal = decimal-value; line = line-short; listing = listing-short }

@@ -1,4 +1,4 @@
--- How long the lines of a listing are, by the numbers that they tell, and that the text of lines one behind the other is their texts.
+-- How long the lines of a listing are, by the numbers in them, and that the text of lines one behind the other is their texts.
 -- Assumes nothing.
 use mathlib.Core.Path.{_≡_, refl, sym, _∙_, ap}
 use mathlib.Core.Bool.{Bool}

@@ -14,11 +14,11 @@ abbrev pub digits : ℕ → ℕ → List ℕ
 digits zero n = []
 digits (suc k) n = pick (ltb n 10) (digit n ∷ []) (digits k (n / 10) ++ (digit (n % 10) ∷ []))
 
--- 20 digits are enough for every number that is told
+-- 20 digits are enough for every number that is listed
 unfoldable pub decimal : ℕ → List ℕ
 decimal n = digits 20 n
 
--- the number that digits tell, read from the left behind those read so far
+-- the number that digits stand for, read from the left behind those read so far
 abbrev pub decimalValue : ℕ → List ℕ → ℕ
 decimalValue sofar [] = sofar
 decimalValue sofar (d ∷ ds) = decimalValue (10 * sofar + (d - 48)) ds

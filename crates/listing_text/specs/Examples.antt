@@ -52,7 +52,7 @@ pub record LinesAtTheEdges : Type 0 where
       ∷ 66 ∷ 32 ∷ 80 ∷ 82 ∷ 10
       ∷ 68 ∷ 32 ∷ 69 ∷ 86 ∷ 69 ∷ 78 ∷ 84 ∷ 32 ∷ 56 ∷ 53 ∷ 10
       ∷ 83 ∷ 32 ∷ 49 ∷ 32 ∷ 49 ∷ 32 ∷ 49 ∷ 10 ∷ []
-  -- settled marks of PFS, best, duration, told apart: P CENSORED 43, B SD, D none, S 0 1 1
+  -- settled marks of PFS, best, duration, each another: P CENSORED 43, B SD, D none, S 0 1 1
   pub stable : outcomeText afterStable
       ≡ 80 ∷ 32 ∷ 67 ∷ 69 ∷ 78 ∷ 83 ∷ 79 ∷ 82 ∷ 69 ∷ 68 ∷ 32 ∷ 52 ∷ 51 ∷ 10
       ∷ 66 ∷ 32 ∷ 83 ∷ 68 ∷ 10

@@ -1,4 +1,4 @@
--- Document 01, "Change in size, file and listing": how long the lines and the listing can be, and what digits tell. Proved in proofs/.
+-- Document 01, "Change in size, file and listing": how long the lines and the listing can be, and the value of digits. Proved in proofs/.
 -- Assumes nothing.
 use mathlib.Core.Path.{_≡_}
 use mathlib.Core.Bool.{true}
@@ -19,7 +19,7 @@ pub record Short (l : VisitLine) : Type 0 where
   pub whole : length (visitText l) ≤ 24
 
 pub record Lengths : Type 0 where
-  -- the digits of a number tell it
+  -- the digits of a number have its value
   pub valueOfDecimal : (n : ℕ) → n < 10 ^ 20 → decimalValue 0 (decimal n) ≡ n
   -- a visit's line, where neither 4 nor 5 meets the baseline and the visit, the visit fits, and its day has five digits
   pub line : (b : Baseline) (p : Past) (d : ℕ) (v : Visit) → fieldsPass (baseline b) ≡ true → fieldsPass (visit d v) ≡ true →

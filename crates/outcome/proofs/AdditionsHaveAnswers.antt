@@ -19,8 +19,8 @@ use Rattle.records.specs.declared.Record.{Record}
 use Rattle.records.specs.declared.OwnRefusal.the-variants as N
 use Rattle.records.specs.Refusals.{refusalsOfRecord}
 use Rattle.records.proofs.NoOwnRefusal.{each-own}
-use Rattle.response_rules.specs.declared.Target.the-variants as T
-use Rattle.response_rules.specs.declared.Overall.the-variants as O
+use Rattle.response_rules.specs.declared.TargetAnswer.the-variants as T
+use Rattle.response_rules.specs.declared.OverallAnswer.the-variants as O
 use Rattle.response_rules.specs.declared.ChangeAnswer.the-variants as C
 use Rattle.response_rules.specs.Words.{Word, CR, PR, SD, PD, NE, targetWord, statusWord, overallWord}
 use Rattle.response_rules.specs.SumOfDiameters.{sumOfDiameters, allMeasured}

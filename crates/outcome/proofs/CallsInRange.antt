@@ -115,9 +115,9 @@ pub reading-in-range : (s : Subject) → inRange s ≡ true → readingOf s ≡ 
 unfolding readingOf
 reading-in-range s h = rw h
 
-tells-within : (s : Subject) → SubjectWithin s → ReadingWithin (outcome (outcomeOf s))
+reading-within : (s : Subject) → SubjectWithin s → ReadingWithin (outcome (outcomeOf s))
 unfolding outcomeOf
-tells-within s w =
+reading-within s w =
     let f = s .followup in
     let v = w .followup in
     let p = pfs-within (f .event .progression) (f .deathday) (f .event .lastvisit .0) (f .event .lastevaluable) (v .event .progression) (v .deathday) (v .event .lastevaluable) in
@@ -170,9 +170,9 @@ added-outside : {s t : Subject} {r : Record} {a : AddAnswer} → Adds s r a t �
 unfolding refusalOfAddingHeld
 added-outside w h = w .answer ∙ rw h
 
-told-outside : {s : Subject} {o : OutcomeAnswer} → ReadsOutcome s o → inRange s ≡ false → readingValues o ≡ refused 12
+read-outside : {s : Subject} {o : OutcomeAnswer} → ReadsOutcome s o → inRange s ≡ false → readingValues o ≡ refused 12
 unfolding readingOf
-told-outside w h = w .answer ∙ rw h
+read-outside w h = w .answer ∙ rw h
 
 pub calls-in-range : CallsInRange
 unfolding openedSubject
@@ -185,10 +185,10 @@ calls-in-range =
       notAnswered = λ w z. no-responses w z;
       fromBytes = from-bytes;
       notFromBytes = not-from-bytes;
-      outcomeRead = λ {s} w h. subst ReadingWithin (sym (w .answer ∙ reading-in-range s h)) (tells-within s (subject-within s h));
+      outcomeRead = λ {s} w h. subst ReadingWithin (sym (w .answer ∙ reading-in-range s h)) (reading-within s (subject-within s h));
       addedOutside = added-outside;
-      outcomeReadOutside = told-outside;
+      outcomeReadOutside = read-outside;
       addedBytesOutside = added-bytes-outside;
       addedToBlank = λ w. let twelve = added-outside w blank-outside in (twelve, not-added w (λ z. let f : ⊥ = omega (arith, twelve, z) in f));
-      outcomeReadOfBlank = λ w. told-outside w blank-outside;
+      outcomeReadOfBlank = λ w. read-outside w blank-outside;
     }

@@ -105,9 +105,9 @@ module _ (x : BaselineEntry) (marks : List Bool) (sizes : List ℕ) where
           lawfully = h .lawfully;
         }
 
-    pub grown : eqb (refusalOfAdding (opened-with ∷ rs) r) 0 ≡ true → Held (rs ++ (r ∷ [])) t
+    pub one-more-held : eqb (refusalOfAdding (opened-with ∷ rs) r) 0 ≡ true → Held (rs ++ (r ∷ [])) t
     unfolding refusalsOfAdding
-    grown e =
+    one-more-held e =
         record {
           same = next ∙ added-held (x .date) base (past rs) inside r (h .lawfully) e ∙ ap (summary (x .date) base) (sym (past-one-more rs r));
           inside = calls-in-range .added w (h .inside);
@@ -151,16 +151,16 @@ module _ (x : BaselineEntry) (marks : List Bool) (sizes : List ℕ) where
     where
       go : (z : Bool) → eqb (refusalOfAdding (opened-with ∷ rs) r) 0 ≡ z → (Held (rs ++ (r ∷ [])) t → After (rs ++ (r ∷ [])) cs ys u) →
           (Held rs t → After rs cs ys u) → After rs (add r ∷ cs) (added (addNumber a) (addResponses a) ∷ ys) u
-      go true e more same = one-call rs r (number rs r h w) (responses rs r h w) (rs ++ (r ∷ [])) (rw e) (more (grown rs r h w e))
+      go true e more same = one-call rs r (number rs r h w) (responses rs r h w) (rs ++ (r ∷ [])) (rw e) (more (one-more-held rs r h w e))
       go false e more same = one-call rs r (number rs r h w) (responses rs r h w) rs (rw e) (same (kept rs r h w e))
   after rs h (reads {ys = ys} w c) =
       let later = after rs h c in
-      let told-outcome = reading rs h w in
+      let outcome-of-records = reading rs h w in
       record {
         last = later .last;
         behind = later .behind;
-        replied = λ i. outcomeRead (told-outcome i) ∷ later .replied i;
-        without12 = subst (λ (y : Reading). Without12 (outcomeRead y ∷ ys)) (sym told-outcome) (later .without12);
+        replied = λ i. outcomeRead (outcome-of-records i) ∷ later .replied i;
+        without12 = subst (λ (y : Reading). Without12 (outcomeRead y ∷ ys)) (sym outcome-of-records) (later .without12);
         held = later .held;
       }
 

@@ -68,6 +68,6 @@ module _ (s : Subject) (enrolled : Bool) (eq : enrolled ≡ enrolmentInRange (s 
     unfolding readingOf inRange
     follow-up-outside k = record { answer = rw (← eq, not-false enrolled h, ← fq, not-true followed k) }
 
-    pub read-told : (o : OutcomeResult) → not followed ≡ false → outcomeValues o ≡ outcomeOf s → ReadsOutcome s (R.Read o)
+    pub outcome-read : (o : OutcomeResult) → not followed ≡ false → outcomeValues o ≡ outcomeOf s → ReadsOutcome s (R.Read o)
     unfolding readingOf inRange
-    read-told o k q = record { answer = rw (← eq, not-false enrolled h, ← fq, not-false followed k, q) }
+    outcome-read o k q = record { answer = rw (← eq, not-false enrolled h, ← fq, not-false followed k, q) }

@@ -60,7 +60,7 @@ Without12 (added n ls ∷ ys) = (n ≡ 12 → ⊥) × Without12 ys
 Without12 (outcomeRead (refused n) ∷ ys) = (n ≡ 12 → ⊥) × Without12 ys
 Without12 (outcomeRead (outcome o) ∷ ys) = Without12 ys
 
--- what a reading says of a baseline and the records behind it: its parts are the paper's outcome, and each mark that it reports is true exactly when no
+-- what a reading reports of a baseline and the records behind it: its parts are the paper's outcome, and each mark that it reports is true exactly when no
 -- lawful run of further records, whose fields pass 4 and 5, changes its part
 pub record Reports (reported : Outcome) (b : Baseline) (rs : List StudyRecord) : Type 0 where
   pub pfs : reported .pfs ≡ outcomeInOrder b rs .pfs
@@ -70,7 +70,7 @@ pub record Reports (reported : Outcome) (b : Baseline) (rs : List StudyRecord) :
   pub bestMark : (reported .bestSettled ≡ true) ↔ NoRunChangesInOrder (λ (o : Outcome). o .best) b rs
   pub durationMark : (reported .durationSettled ≡ true) ↔ NoRunChangesInOrder (λ (o : Outcome). o .duration) b rs
 
--- of a reading's values and a list of records: no refusal, the list opens with a baseline, and the outcome says what it should
+-- of a reading's values and a list of records: no refusal, the list opens with a baseline, and the outcome is reported as it should be
 abbrev pub ReportsOn : Reading → List StudyRecord → Type 0
 ReportsOn (refused n) rs = ⊥
 ReportsOn (outcome reported) rs = fromBaseline ⊥ (Reports reported) rs
@@ -79,8 +79,8 @@ ReportsOn (outcome reported) rs = fromBaseline ⊥ (Reports reported) rs
 abbrev pub Claim : OutcomeAnswer → List Record → Type 0
 Claim o rs = ReportsOn (readingValues o) (onStudyDays rs)
 
--- of a baseline opened with, the calls, their replies and the answer of a reading after the last of them: each call replied as the paper says, 12 met none,
--- the records accepted are a lawful list, and the reading says the outcome of that list
+-- of a baseline opened with, the calls, their replies and the answer of a reading after the last of them: each call replied as the paper has it, 12 met none,
+-- the records accepted are a lawful list, and the reading reports the outcome of that list
 pub record Holds (b : Record) (cs : List Call) (ys : List Reply) (o : OutcomeAnswer) : Type 0 where
   pub replied : ys ≡ replies b cs
   pub without12 : Without12 ys

@@ -1,4 +1,4 @@
--- Document 01, "Settled": what is held after any list of calls; each field is told by `summary` (held/specs/Summary). Proved in proofs/Demand3.antt.
+-- Document 01, "Settled": what is held after any list of calls; each field is that of `summary` (subject/specs/Summary). Proved in proofs/Demand3.antt.
 -- Assumes nothing.
 use mathlib.Core.Path.{_≡_}
 use mathlib.Core.List.{List, [], _∷_, reverse}

@@ -14,7 +14,7 @@ use Rattle.outcome_rules.specs.Course.{Judged, Occurrence, judgedVisit, 
 use Rattle.outcome_rules.specs.Pfs.{pfs}
 use Rattle.outcome_rules.specs.BestResponse.{isCR, isResponse, confirmsEarlierCR, confirmedCR, confirmedResponse, stableDisease, bestOf, best}
 use Rattle.outcome_rules.specs.Duration.{firstResponse, durationOf, duration}
-use Rattle.outcome_rules.proofs.OneRecordMore.{recorded-keeps, Follows, lasts-by, Unchanged}
+use Rattle.outcome_rules.proofs.OneRecordMore.{recorded-keeps, Follows, unchanged-by, Unchanged}
 use Rattle.outcome_rules.proofs.BaselineMissing.{AllNE}
 use Rattle.outcome_rules.proofs.PfsUnchanged.{PfsOver, progressed, dead, late, pfs-keeps}
 
@@ -119,8 +119,8 @@ best-keeps c e f (complete q) =
     let k = confirmed-keeps c e q in
     (complete k, confirmed-best (e ∷ c) k ∙ sym (confirmed-best c q))
 
-pub best-lasts : (b : Baseline) (p : Past) → BestOver (b .assessed) (course b p) → Unchanged best b p
-best-lasts b p why = lasts-by best (BestOver (b .assessed)) b best-keeps p why
+pub best-unchanged : (b : Baseline) (p : Past) → BestOver (b .assessed) (course b p) → Unchanged best b p
+best-unchanged b p why = unchanged-by best (BestOver (b .assessed)) b best-keeps p why
 
 -- duration: PFS lasts, or there is none and no counting visit can make one
 pub data DurationOver (assessed : Bool) (c : Course) : Type 0 where
@@ -148,5 +148,5 @@ module _ {assessed : Bool} (c : Course) where
       none-both a none n = refl
       none-both a (on d) n = rw n
 
-pub duration-lasts : (b : Baseline) (p : Past) → DurationOver (b .assessed) (course b p) → Unchanged duration b p
-duration-lasts b p why = lasts-by duration (DurationOver (b .assessed)) b duration-keeps p why
+pub duration-unchanged : (b : Baseline) (p : Past) → DurationOver (b .assessed) (course b p) → Unchanged duration b p
+duration-unchanged b p why = unchanged-by duration (DurationOver (b .assessed)) b duration-keeps p why

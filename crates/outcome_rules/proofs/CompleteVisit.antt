@@ -1,4 +1,4 @@
--- A visit at which all disease is gone: behind any list it may be recorded on a later day, and its overall answer is CR.
+-- A visit at which all disease has disappeared: behind any list it may be recorded on a later day, and its overall answer is CR.
 -- Assumes nothing.
 use mathlib.Core.Path.{_≡_, refl}
 use mathlib.Core.Bool.{Bool, true, false, not}
@@ -50,9 +50,9 @@ not-both count i = go (ltb i count) refl
     go true e = rw (lt-leb count i (ltb-true i count e))
     go false e = rw (le-leb count i (ltb-false i count e))
 
-gone-zero : (node : Bool) → disappeared node 0 ≡ true
-gone-zero true = refl
-gone-zero false = refl
+disappeared-at-zero : (node : Bool) → disappeared node 0 ≡ true
+disappeared-at-zero true = refl
+disappeared-at-zero false = refl
 
 not-large : (m : Bool) → measuredOutsideLimits m 0 ≡ false
 unfolding measuredOutsideLimits
@@ -88,13 +88,13 @@ module _ (b : Baseline) where
   complete-measured =
       rw (within-or-beyond (b .count) 0, within-or-beyond (b .count) 1, within-or-beyond (b .count) 2, within-or-beyond (b .count) 3, within-or-beyond (b .count) 4)
 
-  complete-gone : allDisappeared (b .count) (b .nodes) (completeVisit b .sizes) ≡ true
+  complete-disappeared : allDisappeared (b .count) (b .nodes) (completeVisit b .sizes) ≡ true
   unfolding allDisappeared completeVisit
-  complete-gone = simp (gone-zero, either-with-true)
+  complete-disappeared = simp (disappeared-at-zero, either-with-true)
 
   complete-target : (vs : List Visit) → targetAnswerAfter (disease b) vs (completeVisit b) ≡ pick (eqb (b .count) 0) NA CR
   unfolding targetAnswer
-  complete-target vs = rw (complete-measured, complete-gone)
+  complete-target vs = rw (complete-measured, complete-disappeared)
 
   -- a target or non-target disease
   has-disease : fieldsPass (baseline b) ≡ true → b .assessed ≡ true → both (eqb (b .count) 0) (not (b .nontarget)) ≡ false

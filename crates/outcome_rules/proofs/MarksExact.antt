@@ -19,8 +19,8 @@ use Rattle.outcome_rules.specs.Settled.{settledFrom, pfsSettledBy, bestS
 use Rattle.outcome_rules.specs.MarksExact.{EveryMarkExact}
 use Rattle.outcome_rules.proofs.OneRecordMore.{absent, Unchanged}
 use Rattle.outcome_rules.proofs.BaselineMissing.{missing-visits}
-use Rattle.outcome_rules.proofs.PfsUnchanged.{PfsOver, progressed, dead, late, pfs-lasts}
-use Rattle.outcome_rules.proofs.BestUnchanged.{closed, afterDeath, missing, BestOver, counted, complete, words-of-best, confirmed-best, best-lasts, ended, without, duration-lasts, no-response}
+use Rattle.outcome_rules.proofs.PfsUnchanged.{PfsOver, progressed, dead, late, pfs-unchanged}
+use Rattle.outcome_rules.proofs.BestUnchanged.{closed, afterDeath, missing, BestOver, counted, complete, words-of-best, confirmed-best, best-unchanged, ended, without, duration-unchanged, no-response}
 use Rattle.outcome_rules.proofs.RunsBuilt.{same-after-one, same-after-two, same-after-death}
 use Rattle.outcome_rules.proofs.PfsChanged.{pfs-changes, pfs-changes-missing}
 use Rattle.outcome_rules.proofs.BestChanged.{duration-exists, best-changes, duration-begins, duration-grows}
@@ -86,19 +86,19 @@ module _ (b : Baseline) (p : Past) (passes : fieldsPass (baseline b) ≡ true) (
 
   pfs-exact : (pfsSettled (b .assessed) c ≡ true) ↔ Unchanged pfs b p
   pfs-exact =
-      pfs-mark (b .assessed) c (pfs-lasts b p)
+      pfs-mark (b .assessed) c (pfs-unchanged b p)
       (λ alive assessed e lasts. pfs-changes c alive e (same-after-one pfs b p lawfully alive lasts passes assessed))
       (λ alive m early lasts. pfs-changes-missing c alive (missing-visits b p m) early (same-after-death pfs b p lawfully alive lasts))
 
   best-exact : (bestSettled (b .assessed) c ≡ true) ↔ Unchanged best b p
   best-exact =
-      best-mark (b .assessed) c (best-lasts b p)
+      best-mark (b .assessed) c (best-unchanged b p)
       (λ alive assessed untreated e short lasts. best-changes c e untreated short (same-after-two best b p lawfully alive lasts passes assessed))
 
   -- where a duration exists, and where not
   grows : exists (duration c) ≡ true → (pfsSettled (b .assessed) c ≡ true) ↔ Unchanged duration b p
   grows there =
-      pfs-mark (b .assessed) c (λ over. duration-lasts b p (ended over))
+      pfs-mark (b .assessed) c (λ over. duration-unchanged b p (ended over))
       (λ alive assessed e lasts. duration-grows c e alive there (same-after-one duration b p lawfully alive lasts passes assessed))
       (λ alive m early lasts. never (sym there ∙ duration-exists c ∙ no-response c (missing-visits b p m)))
 
@@ -109,7 +109,7 @@ module _ (b : Baseline) (p : Past) (passes : fieldsPass (baseline b) ≡ true) (
       duration-begins c e untreated not-there (same-after-two duration b p lawfully alive lasts passes assessed))
     where
       by : BestOver (b .assessed) c → Unchanged duration b p
-      by (counted q) = duration-lasts b p (without (sym (duration-exists c) ∙ not-there) q)
+      by (counted q) = duration-unchanged b p (without (sym (duration-exists c) ∙ not-there) q)
       by (complete q) = absurd (never (sym (ap isResponse (confirmed-best c q)) ∙ sym (duration-exists c) ∙ not-there))
 
   duration-exact : (durationSettled (b .assessed) c ≡ true) ↔ Unchanged duration b p

@@ -24,8 +24,8 @@ pass-reverse (r ∷ rs) e =
     let parts = both-true (fieldsPass r) (allPass rs) e in
     ap allPass (reverse-append (r ∷ []) rs) ∙ pass-append (reverse rs) (r ∷ []) (pass-reverse rs (parts .1)) (rw (parts .0))
 
-lasts-in-order : {A : Type 0} (part : Outcome → A) (b : Baseline) (rs : List StudyRecord) → NoRunChanges part b (reverse rs) ↔ NoRunChangesInOrder part b rs
-lasts-in-order part b rs = (
+unchanged-in-order : {A : Type 0} (part : Outcome → A) (b : Baseline) (rs : List StudyRecord) → NoRunChanges part b (reverse rs) ↔ NoRunChangesInOrder part b rs
+unchanged-in-order part b rs = (
   λ lasts run passes l.
       ap (λ (p : Past). part (outcome b p)) (reverse-append rs run)
       ∙ lasts (reverse run) (pass-reverse run passes) (ap (lawfulBehind b) (sym (reverse-append rs run)) ∙ l),
@@ -42,8 +42,8 @@ every-mark-exact-in-order =
       exact = λ b rs passes lawfully.
           let marks = every-mark-exact .exact b (reverse rs) passes lawfully in
           record {
-            pfs = Iff·trans (marks .pfs) (lasts-in-order (λ (o : Outcome). o .pfs) b rs);
-            best = Iff·trans (marks .best) (lasts-in-order (λ (o : Outcome). o .best) b rs);
-            duration = Iff·trans (marks .duration) (lasts-in-order (λ (o : Outcome). o .duration) b rs);
+            pfs = Iff·trans (marks .pfs) (unchanged-in-order (λ (o : Outcome). o .pfs) b rs);
+            best = Iff·trans (marks .best) (unchanged-in-order (λ (o : Outcome). o .best) b rs);
+            duration = Iff·trans (marks .duration) (unchanged-in-order (λ (o : Outcome). o .duration) b rs);
           };
     }

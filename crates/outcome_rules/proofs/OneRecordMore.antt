@@ -96,10 +96,10 @@ Unchanged part b p =
     (run : Past) → allPass run ≡ true → lawfulBehind b (run ++ p) ≡ true → part (course b (run ++ p)) ≡ part (course b p)
 
 -- so it is where each further occurrence keeps it, together with a reason for that
-pub lasts-by : {A : Type 0} (part : Course → A) (Reason : Course → Type 0) (b : Baseline) →
+pub unchanged-by : {A : Type 0} (part : Course → A) (Reason : Course → Type 0) (b : Baseline) →
     ((c : Course) (e : Occurrence) → Follows (b .assessed) c e → Reason c → Reason (e ∷ c) × (part (e ∷ c) ≡ part c)) →
     (p : Past) → Reason (course b p) → Unchanged part b p
-lasts-by part Reason b keep p why run passes l = go run l .1
+unchanged-by part Reason b keep p why run passes l = go run l .1
   where
     step : (p : Past) (r : StudyRecord) → lawfulBehind b (r ∷ p) ≡ true → Reason (course b p) →
         Reason (course b (r ∷ p)) × (part (course b (r ∷ p)) ≡ part (course b p))

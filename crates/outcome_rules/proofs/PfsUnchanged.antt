@@ -12,7 +12,7 @@ use Rattle.outcome_rules.specs.StudyRecords.{Baseline}
 use Rattle.outcome_rules.specs.LawfulLists.{Past}
 use Rattle.outcome_rules.specs.Course.{Occurrence, judgedVisit, therapyOn, deathOn, Course, course, dayIn, latestDayIn, deathDayIn, visitsIn, progression}
 use Rattle.outcome_rules.specs.Pfs.{earlyDeathLimit, pfs}
-use Rattle.outcome_rules.proofs.OneRecordMore.{recorded-on, recorded-keeps, Follows, lasts-by, Unchanged}
+use Rattle.outcome_rules.proofs.OneRecordMore.{recorded-on, recorded-keeps, Follows, unchanged-by, Unchanged}
 use Rattle.outcome_rules.proofs.BaselineMissing.{AllNE, no-progression, no-evaluable}
 
 -- PFS: a progression or a death is recorded, or the baseline is missing and a death from now on is no early one
@@ -44,5 +44,5 @@ pfs-keeps c e f (progressed q) = let d = recorded-on (progression c) q in (progr
 pfs-keeps c e f (dead q) = absurd (never (sym q ∙ ap isRecorded (f .alive)))
 pfs-keeps c e f (late m h) = let up = f .later in (late m (omega arith), pfs-late c e (f .unassessed m) (f .alive) (omega arith))
 
-pub pfs-lasts : (b : Baseline) (p : Past) → PfsOver (b .assessed) (course b p) → Unchanged pfs b p
-pfs-lasts b p why = lasts-by pfs (PfsOver (b .assessed)) b pfs-keeps p why
+pub pfs-unchanged : (b : Baseline) (p : Past) → PfsOver (b .assessed) (course b p) → Unchanged pfs b p
+pfs-unchanged b p why = unchanged-by pfs (PfsOver (b .assessed)) b pfs-keeps p why

@@ -45,6 +45,7 @@ confirmationDays = 28
 abbrev pub stableDiseaseFrom : ℕ
 stableDiseaseFrom = 36
 
+-- 28 days or more apart
 abbrev pub confirms : ℕ → ℕ → Bool
 confirms earlier later = leb (earlier + confirmationDays) later
 

@@ -8,7 +8,7 @@ use Prim.Native.Nat.{ℕ}
 use Rattle.records.specs.declared.Status.the-variants as S
 use Rattle.records.specs.Examples.{filled}
 use Rattle.response_rules.specs.Words.{Word, CR, PR, SD, PD, NE, NA, NN}
-use Rattle.response_rules.specs.declared.Overall.the-variants as O
+use Rattle.response_rules.specs.declared.OverallAnswer.the-variants as O
 use Rattle.response_rules.specs.Change.{signed}
 use Rattle.outcome_rules.specs.Values.{none, on, EVENT, CENSORED, event, censored, noDuration, forDays, dayValue, pfsStatusWord, pfsValues, bestWord, durationValues}
 use Rattle.outcome_rules.specs.StudyRecords.{Baseline, StudyRecord, baseline, visit, therapy, death, dayOf, fieldsPass, allPass}

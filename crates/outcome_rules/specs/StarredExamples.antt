@@ -59,7 +59,7 @@ measuring d n = visitOn d S.NA false (n ∷ [])
 abbrev pub unmeasured : ℕ → StudyRecord
 unmeasured d = visitOn d S.NA false []
 
--- what an example says
+-- what document 01 answers in an example
 pub data ExampleAnswer : Type 0 where
   target : Word → ExampleAnswer
   is : Bool → ExampleAnswer
@@ -102,7 +102,7 @@ bestSettledOfList b p = is (outcome b p .bestSettled)
 abbrev pub durationSettledOfList : Baseline → Past → ExampleAnswer
 durationSettledOfList b p = is (outcome b p .durationSettled)
 
--- a baseline, the records behind it and the overall answers of its visits in the order recorded, what is asked, and the paper's answer
+-- a baseline, the records behind it and the overall answers of its visits in the order recorded, the question, and the paper's answer
 pub record Example : Type 0 where
   pub opening : Baseline
   pub behind : List StudyRecord
@@ -170,7 +170,7 @@ overallAnswers e = map (λ (j : Judged). j .answer) (reverse (visitsIn (course (
 abbrev pub answerOf : Example → ExampleAnswer
 answerOf e = e .question (e .opening) (reverse (e .behind))
 
--- every list is lawful, its visits have the overall answers said, and what is asked has the paper's answer
+-- every list is lawful, its visits have the overall answers given, and the question has the paper's answer
 pub record Hold (es : List Example) : Type 0 where
   pub lists : lawfulAndPassing es ≡ true
   pub visits : map overallAnswers es ≡ map (λ (e : Example). e .visits) es

@@ -83,7 +83,7 @@ entryOnStudyDay randomisation (E.Death d) marks sizes = death (studyDay randomis
 abbrev pub onStudyDay : Date → Record → StudyRecord
 onStudyDay randomisation r = entryOnStudyDay randomisation (r .entry) (r .marks) (r .sizes)
 
--- what is said of a baseline and the records behind it, of a list of records in the order recorded; `otherwise` where it does not open with a baseline
+-- a function of a baseline and the records behind it, on a list of records in the order recorded; `otherwise` where it does not open with a baseline
 abbrev pub fromBaseline {ℓ} : {A : Type ℓ} → A → (Baseline → List StudyRecord → A) → List StudyRecord → A
 fromBaseline otherwise f [] = otherwise
 fromBaseline otherwise f (baseline b ∷ rs) = f b rs

@@ -1,4 +1,4 @@
--- Document 01, "Change in size, file and listing": what the listing tells of each visit.
+-- Document 01, "Change in size, file and listing": the listing's line of each visit.
 -- Assumes nothing.
 use Prim.Native.Nat.{ℕ}
 use mathlib.Core.List.{List, [], _∷_, _++_, reverse}

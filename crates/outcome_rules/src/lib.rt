@@ -1,7 +1,7 @@
-// What the outcome consists of (document 01, "Outcome"). Its definitions stand in specs/, on lists of records, and what document 01 says of
-// them is proved here; the code that follows them stands in the crates above.
+// What the outcome consists of (document 01, "Outcome"). The rules are definitions in specs/, on lists of records, with their theorems; the code that follows
+// them is `outcome_values`.
 use dates::StudyDay;
-use response_rules::Overall;
+use response_rules::OverallAnswer;
 
 // A study day that may be absent.
 pub enum MaybeDay {
@@ -9,10 +9,9 @@ pub enum MaybeDay {
     On(StudyDay),
 }
 
-// A visit as judged.
 pub struct JudgedVisit {
     pub day: StudyDay,
-    pub answer: Overall,
+    pub answer: OverallAnswer,
 }
 
 pub enum PfsStatus {

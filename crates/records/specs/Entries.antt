@@ -30,7 +30,7 @@ statusNumber NN = 2
 statusNumber PD = 3
 statusNumber NE = 4
 
--- there are five sizes and five marks: the declared type gives it, and no more is asked
+-- there are five sizes and five marks: the declared type gives it
 pub record Five (r : Record) : Type 0 where
   pub sizes : length (r .sizes) ≡ 5
   pub marks : length (r .marks) ≡ 5

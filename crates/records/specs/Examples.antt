@@ -1,5 +1,5 @@
 -- Document 01, "Dates and records" and "Where a call stops", 3 to 5: records on either side of each limit, which of the three comes first, and the numbers
--- of kinds, statuses and refusals; proved in proofs/AtTheEdges.antt. No example is built with a number that it is to tell: five places are written as 5.
+-- of kinds, statuses and refusals; proved in proofs/AtTheEdges.antt. No example is built with a number that it is to pin down: five places are written as 5.
 -- Assumes nothing.
 use mathlib.Core.Path.{_≡_}
 use mathlib.Core.Bool.{Bool, true, false}

@@ -30,25 +30,25 @@ module _ (baseline sum t : ℕ) where
     decrease z = let p : 0 < t = omega arith in rw (less, ← e, lt-ltb sum baseline l, lt-ltb 0 t p)
 
 -- from whether every target is measured and the sum of the measured
-abbrev Tells : BaselineDisease → Bool → ℕ → Tenths → Type 0
-Tells b m s a =
+abbrev ChangeIs : BaselineDisease → Bool → ℕ → Tenths → Type 0
+ChangeIs b m s a =
     (v : Visit) → m ≡ allMeasured (b .count) (v .measured) → s ≡ sumOfDiameters (v .measured) (v .sizes) → a ≡ changeOf b v
 
 module _ (b : BaselineDisease) (m : Bool) (s : ℕ) where
-  pub no-targets : b .count ≡ 0 → Tells b m s none
+  pub no-targets : b .count ≡ 0 → ChangeIs b m s none
   unfolding changeOf
   no-targets h v me se = rw (eq-eqb (b .count) 0 h)
 
   module _ (h : b .count ≡ 0 → ⊥) where
-    pub some-unmeasured : not m ≡ true → Tells b m s none
+    pub some-unmeasured : not m ≡ true → ChangeIs b m s none
     unfolding changeOf
     some-unmeasured n v me se = rw (ne-eqb (b .count) 0 h, ← me, n)
 
     module _ (n : not m ≡ false) where
-      pub no-baseline-sum : b .baselinesum ≡ 0 → Tells b m s none
+      pub no-baseline-sum : b .baselinesum ≡ 0 → ChangeIs b m s none
       unfolding changeOf
       no-baseline-sum z v me se = rw (ne-eqb (b .count) 0 h, ← me, n, eq-eqb (b .baselinesum) 0 z)
 
-      pub between : (b .baselinesum ≡ 0 → ⊥) → (a : Tenths) → a ≡ changeBetween (b .baselinesum) s → Tells b m s a
+      pub between : (b .baselinesum ≡ 0 → ⊥) → (a : Tenths) → a ≡ changeBetween (b .baselinesum) s → ChangeIs b m s a
       unfolding changeOf
       between z a ae v me se = rw (ne-eqb (b .count) 0 h, ← me, n, ne-eqb (b .baselinesum) 0 z, ← se) ae

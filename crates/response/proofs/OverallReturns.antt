@@ -14,9 +14,9 @@ use Rattle.records.specs.declared.Status.{Status}
 use Rattle.records.specs.declared.Status.the-variants as S
 use Rattle.response_rules.specs.Words.{PD, NE, codeOf, targetWord, statusWord, overallWord}
 use Rattle.response_rules.specs.OverallAnswer.{rows, columns, rowOf, columnOf, cell, isPD, overallBy}
-use Rattle.response_rules.specs.declared.Target.{Target}
-use Rattle.response_rules.specs.declared.Target.the-variants as T
-use Rattle.response_rules.specs.declared.Overall.{Overall}
+use Rattle.response_rules.specs.declared.TargetAnswer.{TargetAnswer}
+use Rattle.response_rules.specs.declared.TargetAnswer.the-variants as T
+use Rattle.response_rules.specs.declared.OverallAnswer.{OverallAnswer}
 use Rattle.response_rules.proofs.WordsByCode.{same-code}
 
 abbrev codeIn : List (List ℕ) → ℕ → ℕ → ℕ
@@ -35,7 +35,7 @@ each-cell table e row column h k =
     (eqb-true (codeIn table row column) (codeOf (cell row column)) (t .0), leb-true (codeIn table row column) (codeOf PD) (t .1))
 
 -- PD alone has no row, and no column
-no-row : (t : Target) → leb rows (rowOf (targetWord t)) ≡ isPD (targetWord t)
+no-row : (t : TargetAnswer) → leb rows (rowOf (targetWord t)) ≡ isPD (targetWord t)
 no-row T.NA = refl
 no-row T.CR = refl
 no-row T.PD = refl
@@ -50,7 +50,7 @@ no-column S.NN = refl
 no-column S.PD = refl
 no-column S.NE = refl
 
-module _ (assessed newLesion : Bool) (t : Target) (s : Status) where
+module _ (assessed newLesion : Bool) (t : TargetAnswer) (s : Status) where
   pub missing : not assessed ≡ true → NE ≡ overallBy assessed newLesion (targetWord t) (statusWord s)
   unfolding overallBy
   missing h = rw h
@@ -70,7 +70,7 @@ module _ (assessed newLesion : Bool) (t : Target) (s : Status) where
         unfolding overallBy
         status-pd k = rw (h, n, ← no-row t, ← no-column s, ← re, ← ce, lt-leb rows r l, le-leb columns c k)
 
-        pub in-grid : c < columns → (k : ℕ) → k ≡ codeOf (cell r c) → (o : Overall) → codeOf (overallWord o) ≡ k →
+        pub in-grid : c < columns → (k : ℕ) → k ≡ codeOf (cell r c) → (o : OverallAnswer) → codeOf (overallWord o) ≡ k →
             overallWord o ≡ overallBy assessed newLesion (targetWord t) (statusWord s)
         unfolding overallBy
         in-grid q k ke o e =

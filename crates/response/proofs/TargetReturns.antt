@@ -16,14 +16,14 @@ use Rattle.response_rules.specs.TargetAnswer.{normalShortAxis, disappeared, all
 use Rattle.response_rules.specs.declared.BaselineDisease.{BaselineDisease}
 use Rattle.response_rules.specs.declared.Earlier.{Earlier}
 
--- a target that is normal or gone, as the code tests it
-pub gone-as-tested : (node : Bool) (size : ℕ) → either (eqb size 0) (both node (leb size normalShortAxis)) ≡ disappeared node size
-gone-as-tested true size = go (eqb size 0) refl
+-- a target that has disappeared, as the code tests it
+pub disappeared-as-tested : (node : Bool) (size : ℕ) → either (eqb size 0) (both node (leb size normalShortAxis)) ≡ disappeared node size
+disappeared-as-tested true size = go (eqb size 0) refl
   where
     go : (z : Bool) → eqb size 0 ≡ z → either z (leb size normalShortAxis) ≡ leb size normalShortAxis
     go true q = let z = eqb-true size 0 q in sym (le-leb size normalShortAxis (omega arith))
     go false q = refl
-gone-as-tested false size = either-with-false (eqb size 0)
+disappeared-as-tested false size = either-with-false (eqb size 0)
 
 -- the answer at each visit with these marks and sizes
 abbrev Answers : BaselineDisease → Earlier → List Bool → List ℕ → Word → Type 0

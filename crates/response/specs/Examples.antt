@@ -8,8 +8,8 @@ use Rattle.records.specs.Examples.{fivePlaces}
 use Rattle.records.specs.declared.Status.the-variants as S
 use Rattle.response_rules.specs.Inputs.{visitOf}
 use Rattle.response_rules.specs.Examples.{printed}
-use Rattle.response_rules.specs.declared.Target.the-variants as T
-use Rattle.response_rules.specs.declared.Overall.the-variants as O
+use Rattle.response_rules.specs.declared.TargetAnswer.the-variants as T
+use Rattle.response_rules.specs.declared.OverallAnswer.the-variants as O
 use Rattle.response_rules.specs.declared.ChangeAnswer.the-variants as C
 use Rattle.response.specs.Judging.{JudgesVisit}
 use Rattle.response.specs.declared.VisitAnswer.{VisitAnswer}

@@ -30,7 +30,7 @@ fn change_between(baseline: u32, sum: u32) -> ChangeAnswer
     ChangeAnswer::Decrease(less)
 }
 
-// From whether every target is measured and the sum of the measured.
+// `complete`: every target is measured.
 pub(crate) fn change_from_baseline(
     baseline: BaselineDisease,
     complete: bool,

@@ -1,7 +1,7 @@
 // The grid and the overall answer.
 use records::Status;
-use response_rules::Overall;
-use response_rules::Target;
+use response_rules::OverallAnswer;
+use response_rules::TargetAnswer;
 ghost use mathlib.Core.Path.{_≡_};
 ghost use Prim.Native.Nat.{_<_, _≤_};
 ghost use Rattle.response_rules.specs.Words.{PD, codeOf, targetWord, statusWord, overallWord};
@@ -30,16 +30,16 @@ const GRID: [[u8; 4]; 5] = [
 ];
 
 // PD has no row.
-fn row(target: Target) -> usize
+fn row(target: TargetAnswer) -> usize
     ensures { λ r. ⌜ r ≡ rowOf (targetWord target) ⌝ }
 {
     match target {
-        Target::CR => 0,
-        Target::PR => 1,
-        Target::SD => 2,
-        Target::NE => 3,
-        Target::NA => 4,
-        Target::PD => ROWS,
+        TargetAnswer::CR => 0,
+        TargetAnswer::PR => 1,
+        TargetAnswer::SD => 2,
+        TargetAnswer::NE => 3,
+        TargetAnswer::NA => 4,
+        TargetAnswer::PD => ROWS,
     }
 }
 
@@ -63,40 +63,40 @@ fn code_at(row: usize, column: usize) -> u8
     GRID[row][column]
 }
 
-fn answer(code: u8) -> Overall
+fn answer(code: u8) -> OverallAnswer
     requires { ⌜ code ≤ codeOf PD ⌝ }
     ensures { λ r. ⌜ codeOf (overallWord r) ≡ code ⌝ }
 {
     match code {
-        CR => Overall::CR,
-        PR => Overall::PR,
-        SD => Overall::SD,
-        NE => Overall::NE,
-        _ => Overall::PD,
+        CR => OverallAnswer::CR,
+        PR => OverallAnswer::PR,
+        SD => OverallAnswer::SD,
+        NE => OverallAnswer::NE,
+        _ => OverallAnswer::PD,
     }
 }
 
 pub(crate) fn overall_answer(
     assessed: bool,
     newlesion: bool,
-    target: Target,
+    target: TargetAnswer,
     status: Status,
-) -> Overall
+) -> OverallAnswer
     ensures { λ r. ⌜ overallWord r ≡ overallBy assessed newlesion (targetWord target) (statusWord status) ⌝ }
 {
     if !assessed {
-        return Overall::NE;
+        return OverallAnswer::NE;
     }
     if newlesion {
-        return Overall::PD;
+        return OverallAnswer::PD;
     }
     let row = row(target);
     let column = column(status);
     if ROWS <= row {
-        return Overall::PD;
+        return OverallAnswer::PD;
     }
     if COLUMNS <= column {
-        return Overall::PD;
+        return OverallAnswer::PD;
     }
     answer(code_at(row, column))
 }

@@ -4,8 +4,8 @@ use records::VisitEntry;
 use response_rules::BaselineDisease;
 use response_rules::ChangeAnswer;
 use response_rules::Earlier;
-use response_rules::Overall;
-use response_rules::Target;
+use response_rules::OverallAnswer;
+use response_rules::TargetAnswer;
 ghost use Rattle.response_rules.specs.Inputs.{visitOf};
 ghost use Rattle.response.specs.Judging.{JudgesBaseline, JudgesVisit};
 
@@ -22,8 +22,8 @@ pub struct BaselineAnswer {
 }
 
 pub struct VisitAnswer {
-    pub target: Target,
-    pub overall: Overall,
+    pub target: TargetAnswer,
+    pub overall: OverallAnswer,
     pub change: ChangeAnswer,
     // What this visit and the earlier ones leave for judging the next one.
     pub after: Earlier,

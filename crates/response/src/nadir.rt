@@ -6,7 +6,7 @@ ghost use Rattle.response_rules.specs.SumOfDiameters.{sumOfDiameters, allMeasur
 ghost use Rattle.response_rules.specs.Nadir.{afterVisit};
 ghost use Rattle.response_rules.specs.declared.BaselineDisease.{BaselineDisease};
 
-// From whether every target is measured and the sum of the measured.
+// `complete`: every target is measured.
 pub(crate) fn after_visit(earlier: Earlier, complete: bool, sum: u32) -> Earlier
     ensures { λ r. ⌜ ((b : BaselineDisease) (v : Visit) → complete ≡ allMeasured (b .count) (v .measured) → sum ≡ sumOfDiameters (v .measured) (v .sizes) → r ≡ afterVisit b earlier v) ⌝ }
 {

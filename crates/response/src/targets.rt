@@ -3,16 +3,16 @@ use super::sums::all_measured;
 use super::sums::sum_of_diameters;
 use response_rules::BaselineDisease;
 use response_rules::Earlier;
-use response_rules::Target;
+use response_rules::TargetAnswer;
 ghost use mathlib.Core.Path.{_≡_};
 ghost use Rattle.response_rules.specs.Words.{targetWord};
 ghost use Rattle.response_rules.specs.Inputs.{Visit};
 ghost use Rattle.response_rules.specs.TargetAnswer.{disappeared, allDisappeared, progressionFromNadir, partialResponse, targetAnswer};
 
-// The short axis in millimetres up to which a node is normal.
+// In millimetres; RECIST 1.1 calls a node below 10 mm normal.
 const NORMAL_SHORT_AXIS: u16 = 9;
 
-// Growth that is progression: millimetres above the nadir, and fifths of it.
+// Progression: millimetres above the nadir, and fifths of it.
 const PROGRESSION_INCREASE: u64 = 5;
 
 const PROGRESSION_FIFTHS: u64 = 6;
@@ -20,7 +20,6 @@ const PROGRESSION_FIFTHS: u64 = 6;
 // A partial response: tenths of the baseline sum, which is 30 % less.
 const PARTIAL_RESPONSE_TENTHS: u64 = 7;
 
-// A node is normal, any other target gone.
 fn has_disappeared(node: bool, size: u16) -> bool
     ensures { λ r. ⌜ r ≡ disappeared node size ⌝ }
 {
@@ -55,26 +54,26 @@ pub(crate) fn target_answer(
     earlier: Earlier,
     measured: [bool; 5],
     sizes: [u16; 5],
-) -> Target
+) -> TargetAnswer
     ensures { λ r. ⌜ ((v : Visit) → measured ≡ v .measured → sizes ≡ v .sizes → targetWord r ≡ targetAnswer baseline earlier v) ⌝ }
 {
     if baseline.count == 0 {
-        return Target::NA;
+        return TargetAnswer::NA;
     }
     let nodes = baseline.nodes;
     let sum = sum_of_diameters(measured, sizes);
     let complete = all_measured(baseline.count, measured);
     if complete & all_disappeared(baseline.count, nodes, sizes) {
-        return Target::CR;
+        return TargetAnswer::CR;
     }
     if progression_from_nadir(earlier.nadir, sum) {
-        return Target::PD;
+        return TargetAnswer::PD;
     }
     if !complete {
-        return Target::NE;
+        return TargetAnswer::NE;
     }
     if partial_response(baseline.baselinesum, sum) {
-        return Target::PR;
+        return TargetAnswer::PR;
     }
-    Target::SD
+    TargetAnswer::SD
 }

@@ -10,7 +10,7 @@ use Rattle.response_rules.specs.declared.BaselineDisease.{BaselineDiseas
 use Rattle.response_rules.specs.declared.ChangeAnswer.{ChangeAnswer}
 use Rattle.response_rules.specs.declared.ChangeAnswer.the-variants.{Absent, Increase, Decrease}
 
--- tenths of a percent with their sign; zero has none, and all is zero where there is no change to tell
+-- tenths of a percent with their sign; zero has none, and all is zero where there is no change
 pub record Tenths : Type 0 where
   pub known : Bool
   pub negative : Bool

@@ -1,4 +1,4 @@
--- Document 01, "Examples at the edges", its wrong readings and the printed example, as far as they speak of visits, cases in which one sentence of "Visit
+-- Document 01, "Examples at the edges", its wrong readings and the printed example, as far as they are of visits, cases in which one sentence of "Visit
 -- responses" applies alone, and the words of the declared cases: stated here, proved in proofs/AtTheEdges.antt.
 -- Assumes nothing.
 use mathlib.Core.Path.{_≡_}
@@ -18,8 +18,8 @@ use Rattle.response_rules.specs.Change.{none, signed, changeValues, chan
 use Rattle.response_rules.specs.VisitAnswers.{targetAnswerAfter, overallAnswerAfter}
 use Rattle.response_rules.specs.declared.BaselineDisease.{BaselineDisease}
 use Rattle.response_rules.specs.declared.Earlier.{Earlier}
-use Rattle.response_rules.specs.declared.Target.the-variants as T
-use Rattle.response_rules.specs.declared.Overall.the-variants as O
+use Rattle.response_rules.specs.declared.TargetAnswer.the-variants as T
+use Rattle.response_rules.specs.declared.OverallAnswer.the-variants as O
 use Rattle.response_rules.specs.declared.ChangeAnswer.the-variants as C
 
 -- an assessed baseline with non-target disease and these targets; a target without a mark is no node
@@ -57,11 +57,11 @@ fiveTargets = baselineWith [] (20 ∷ 20 ∷ 20 ∷ 20 ∷ 20 ∷ [])
 pub record OrdersAndPlaces : Type 0 where
   -- 1 before every other: no targets
   pub noTargets : targetAnswerAfter (baselineWith [] []) [] (measuring []) ≡ NA
-  -- 2 before 3: a normal node that has grown by 9 from 0
+  -- 2 before 3: a normal node, 9 mm above a nadir of 0
   pub completeFirst : targetAnswerAfter (baselineWith (true ∷ []) (20 ∷ [])) (measuring (0 ∷ []) ∷ []) (measuring (9 ∷ [])) ≡ CR
   -- any other target is 0
   pub otherOf1 : targetAnswerAfter (baselineWith [] (20 ∷ [])) [] (measuring (1 ∷ [])) ≡ PR
-  -- the fifth target is one of them: in both sums, measured, and gone
+  -- the fifth target is one of them: in both sums, measured, and disappeared
   pub five70 : targetAnswerAfter fiveTargets [] (measuring (14 ∷ 14 ∷ 14 ∷ 14 ∷ 14 ∷ [])) ≡ PR
   pub five71 : targetAnswerAfter fiveTargets [] (measuring (14 ∷ 14 ∷ 14 ∷ 14 ∷ 15 ∷ [])) ≡ SD
   pub fifthUnmeasured : targetAnswerAfter fiveTargets [] (measuring (20 ∷ 20 ∷ 20 ∷ 20 ∷ [])) ≡ NE

@@ -1,4 +1,4 @@
--- Document 01, "Visit responses" and "Change in size, file and listing": what it says of every visit; proved in proofs/Laws.antt.
+-- Document 01, "Visit responses" and "Change in size, file and listing": what holds of every visit; proved in proofs/Laws.antt.
 -- Assumes nothing.
 use mathlib.Core.Path.{_≡_}
 use mathlib.Core.Bool.{true, false}

@@ -14,7 +14,7 @@ abbrev pub sumWhere : (ℕ → Bool) → List ℕ → ℕ → ℕ
 sumWhere marked sizes zero = 0
 sumWhere marked sizes (suc n) = sumWhere marked sizes n + pick (marked n) (getD sizes n 0) 0
 
--- the sum of the measured; a visit that fits its baseline has none beyond the count
+-- sum of diameters, RECIST 1.1's term: document 01's sum of the measured; a visit that fits its baseline has none beyond the count
 unfoldable pub sumOfDiameters : List Bool → List ℕ → ℕ
 sumOfDiameters measured sizes = sumWhere (λ (i : ℕ). getD measured i false) sizes mostTargets
 

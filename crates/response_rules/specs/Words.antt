@@ -3,10 +3,10 @@
 use Prim.Native.Nat.{ℕ}
 use Rattle.records.specs.declared.Status.{Status}
 use Rattle.records.specs.declared.Status.the-variants as S
-use Rattle.response_rules.specs.declared.Target.{Target}
-use Rattle.response_rules.specs.declared.Target.the-variants as T
-use Rattle.response_rules.specs.declared.Overall.{Overall}
-use Rattle.response_rules.specs.declared.Overall.the-variants as O
+use Rattle.response_rules.specs.declared.TargetAnswer.{TargetAnswer}
+use Rattle.response_rules.specs.declared.TargetAnswer.the-variants as T
+use Rattle.response_rules.specs.declared.OverallAnswer.{OverallAnswer}
+use Rattle.response_rules.specs.declared.OverallAnswer.the-variants as O
 
 pub data Word : Type 0 where
   CR : Word
@@ -28,7 +28,7 @@ codeOf NA = 5
 codeOf NN = 6
 
 -- the word of each case: a target answer, a non-target answer, an overall answer
-abbrev pub targetWord : Target → Word
+abbrev pub targetWord : TargetAnswer → Word
 targetWord T.NA = NA
 targetWord T.CR = CR
 targetWord T.PD = PD
@@ -43,7 +43,7 @@ statusWord S.NN = NN
 statusWord S.PD = PD
 statusWord S.NE = NE
 
-abbrev pub overallWord : Overall → Word
+abbrev pub overallWord : OverallAnswer → Word
 overallWord O.CR = CR
 overallWord O.PR = PR
 overallWord O.SD = SD

@@ -1,5 +1,5 @@
-// What the response rules take and answer (document 01, "Visit responses" and "Change in size, file and listing"). The rules' definitions
-// stand in specs/, and what document 01 says of them is proved here; the code that follows them stands in the crates `grid` and `response`.
+// What the response rules take and answer (document 01, "Visit responses" and "Change in size, file and listing"). The rules are definitions in specs/, with
+// their laws; the code that follows them is `response`.
 
 // What a baseline leaves for judging visits.
 pub struct BaselineDisease {
@@ -17,7 +17,7 @@ pub struct Earlier {
 }
 
 // In the order of the grid's rows; PD, which has none, is last.
-pub enum Target {
+pub enum TargetAnswer {
     CR,
     PR,
     SD,
@@ -29,7 +29,7 @@ pub enum Target {
 }
 
 // In the order of the grid's codes.
-pub enum Overall {
+pub enum OverallAnswer {
     CR,
     PR,
     SD,

@@ -72,18 +72,18 @@ earlier-decides s t d h = go (confirms t d) refl
     go true e = let k = leb-true (t + confirmationDays) d e in sym (le-leb (s + confirmationDays) d (omega arith))
     go false e = refl
 
-far-after-either : (f : Day) (t d : ℕ) → AtMost f t → either (confirms t d) (confirmedOn (maybe f) d) ≡ confirmedOn (maybe (f orElse on t)) d
-far-after-either none t d h = either-with-false (confirms t d)
-far-after-either (on s) t d h = earlier-decides s t d h
+confirmed-on-either : (f : Day) (t d : ℕ) → AtMost f t → either (confirms t d) (confirmedOn (maybe f) d) ≡ confirmedOn (maybe (f orElse on t)) d
+confirmed-on-either none t d h = either-with-false (confirms t d)
+confirmed-on-either (on s) t d h = earlier-decides s t d h
 
-complete-before : (d : ℕ) (js : List Judged) → Falling js → confirmsEarlierCR d js ≡ confirmedOn (maybe (crStart js)) d
-complete-before d [] s = refl
-complete-before d (j ∷ js) s = go (j .answer) (complete-before d js (s .1))
+confirms-earlier-cr : (d : ℕ) (js : List Judged) → Falling js → confirmsEarlierCR d js ≡ confirmedOn (maybe (crStart js)) d
+confirms-earlier-cr d [] s = refl
+confirms-earlier-cr d (j ∷ js) s = go (j .answer) (confirms-earlier-cr d js (s .1))
   where
     go : (a : Word) → confirmsEarlierCR d js ≡ confirmedOn (maybe (crStart js)) d →
         either (both (isCR a) (confirms (j .day) d)) (both (allowedBetweenCR a) (confirmsEarlierCR d js))
         ≡ confirmedOn (maybe (pick (isCR a) (crStart js orElse on (j .day)) (pick (allowedBetweenCR a) (crStart js) none))) d
-    go CR ih = rw ih (far-after-either (crStart js) (j .day) d (start-at-most (j .day) js (s .0)))
+    go CR ih = rw ih (confirmed-on-either (crStart js) (j .day) d (start-at-most (j .day) js (s .0)))
     go NE ih = ih
     go PR ih = refl
     go SD ih = refl
@@ -91,9 +91,9 @@ complete-before d (j ∷ js) s = go (j .answer) (complete-before d js (s .1))
     go NA ih = refl
     go NN ih = refl
 
-response-before : (d : ℕ) (js : List Judged) → Falling js → confirmsEarlierResponse d js ≡ confirmedOn (maybe (firstResponse js)) d
-response-before d [] s = refl
-response-before d (j ∷ js) s = go (isResponse (j .answer)) (response-before d js (s .1))
+confirms-earlier-response : (d : ℕ) (js : List Judged) → Falling js → confirmsEarlierResponse d js ≡ confirmedOn (maybe (firstResponse js)) d
+confirms-earlier-response d [] s = refl
+confirms-earlier-response d (j ∷ js) s = go (isResponse (j .answer)) (confirms-earlier-response d js (s .1))
   where
     same : (f : Day) → confirmedOn (maybe f) d ≡ confirmedOn (maybe (f orElse none)) d
     same none = refl
@@ -101,7 +101,7 @@ response-before d (j ∷ js) s = go (isResponse (j .answer)) (response-before d 
 
     go : (r : Bool) → confirmsEarlierResponse d js ≡ confirmedOn (maybe (firstResponse js)) d →
         either (both r (confirms (j .day) d)) (confirmsEarlierResponse d js) ≡ confirmedOn (maybe (firstResponse js orElse pick r (on (j .day)) none)) d
-    go true ih = rw ih (far-after-either (firstResponse js) (j .day) d (first-at-most (j .day) js (s .0)))
+    go true ih = rw ih (confirmed-on-either (firstResponse js) (j .day) d (first-at-most (j .day) js (s .0)))
     go false ih = ih ∙ same (firstResponse js)
 
 module _ (d : ℕ) where
@@ -156,14 +156,14 @@ best-of-held false false true pd = refl
 best-of-held false false false true = refl
 best-of-held false false false false = refl
 
-pub counted-follows : (j : Judged) (js : List Judged) → Falling js → countingAfter (countingOf js) j ≡ countingOf (j ∷ js)
+pub counting-follows : (j : Judged) (js : List Judged) → Falling js → countingAfter (countingOf js) j ≡ countingOf (j ∷ js)
 unfolding countingAfter countingOf
-counted-follows j js s =
+counting-follows j js s =
     let first = first-follows (j .day) (firstResponse js) (isResponse (j .answer)) in
     let start = start-follows (j .day) (crStart js) (isCR (j .answer)) (allowedBetweenCR (j .answer)) in
     let pd = progression-follows (j .day) (firstPD js) (isPD (j .answer)) in
-    let complete = sym (complete-before (j .day) js s) in
-    let response = sym (response-before (j .day) js s) in
+    let complete = sym (confirms-earlier-cr (j .day) js s) in
+    let response = sym (confirms-earlier-response (j .day) js s) in
     let shown = better-shown (confirmedCR js) (confirmedResponse js) (stableDisease js) (isRecorded (firstPD js)) (both (isCR (j .answer)) (confirmedOn (maybe (crStart js)) (j .day)))
     (both (isResponse (j .answer)) (confirmedOn (maybe (firstResponse js)) (j .day))) (both (isStableOrBetter (j .answer)) (leb stableDiseaseFrom (j .day))) (isPD (j .answer)) in
     let follows : bestFrom

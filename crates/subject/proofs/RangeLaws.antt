@@ -124,9 +124,9 @@ module _ (j : Judged) (w : Within (j .day)) where
       go false p false q true r = rw (p, q, r) (record { lastvisit = w; progression = tt; lastevaluable = w })
       go false p false q false r = rw (p, q, r) (record { lastvisit = w; progression = tt; lastevaluable = h .lastevaluable })
 
-  pub counted-within : (c : CountingVisits) → CountingWithin c → CountingWithin (countingAfter c j)
+  pub counting-within : (c : CountingVisits) → CountingWithin c → CountingWithin (countingAfter c j)
   unfolding countingAfter
-  counted-within c h =
+  counting-within c h =
       let after = firstRecorded (c .crstart) (at (j .day)) in
       let between = pick (allowedBetweenCR (j .answer)) (c .crstart) M.Absent in
       record {

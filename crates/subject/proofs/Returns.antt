@@ -8,7 +8,7 @@ use borrow.Author.Tests.{le-leb, lt-leb}
 use Rattle.dates.specs.Calendar.{lastDayNumber, dateExists}
 use Rattle.dates.specs.declared.StudyDay.{StudyDay}
 use Rattle.records.specs.Refusals.{mostTargets}
-use Rattle.response_rules.specs.declared.Overall.the-variants as O
+use Rattle.response_rules.specs.declared.OverallAnswer.the-variants as O
 use Rattle.response_rules.specs.Words.{Word}
 use Rattle.outcome_rules.specs.declared.MaybeDay.{MaybeDay}
 use Rattle.outcome_rules.specs.declared.MaybeDay.the-variants as M
@@ -35,8 +35,8 @@ module _ (m : MaybeDay) (d : StudyDay) where
   pub first-recorded : (e : StudyDay) → m ≡ M.On e → m ≡ firstRecorded m d
   first-recorded e q = rw q
 
-  pub far-recorded : (e : StudyDay) → m ≡ M.On e → leb (e .0 + confirmationDays) (d .0) ≡ confirmedOn m (d .0)
-  far-recorded e q = rw q
+  pub confirmed-recorded : (e : StudyDay) → m ≡ M.On e → leb (e .0 + confirmationDays) (d .0) ≡ confirmedOn m (d .0)
+  confirmed-recorded e q = rw q
 
 -- ---- what 12 judges
 
@@ -92,9 +92,9 @@ module _ (f : FollowUp) (n : f .earlier .nadir ≤ largestSum) (a : Bool) (p : a
       unfolding followUpInRange
       event-outside l = l ∙ rw (le-leb (f .earlier .nadir) largestSum n, ← p, h, ← q, k, ← r, l)
 
-      pub by-counted : (d : Bool) → c ≡ true → d ≡ countingInRange (f .counting) → d ≡ followUpInRange f
+      pub by-counting : (d : Bool) → c ≡ true → d ≡ countingInRange (f .counting) → d ≡ followUpInRange f
       unfolding followUpInRange
-      by-counted d l s = rw (le-leb (f .earlier .nadir) largestSum n, ← p, h, ← q, k, ← r, l) s
+      by-counting d l s = rw (le-leb (f .earlier .nadir) largestSum n, ← p, h, ← q, k, ← r, l) s
 
 -- ---- one visit more
 
@@ -161,8 +161,8 @@ module _ (m r : MaybeDay) (j : JudgedVisit) (v : r ≡ firstRecorded m (j .day))
   pub start-cr : j .answer ≡ O.CR → r ≡ crStartAfter m (judgedValues j)
   start-cr q = v ∙ rw q
 
-pub counted-made : (c : CountingVisits) (j : Judged) (f s : MaybeDay) (shown best : BestResponse) → f ≡ firstResponseAfter (c .firstresponse) j →
+pub counting-made : (c : CountingVisits) (j : Judged) (f s : MaybeDay) (shown best : BestResponse) → f ≡ firstResponseAfter (c .firstresponse) j →
     s ≡ crStartAfter (c .crstart) j → shown ≡ bestFrom (bestShown c j) → best ≡ betterOf (c .best) shown →
     record { firstresponse = f; crstart = s; best = best } ≡ countingAfter c j
 unfolding countingAfter
-counted-made c j f s shown best fq sq wq bq = rw (fq, sq, bq, wq)
+counting-made c j f s shown best fq sq wq bq = rw (fq, sq, bq, wq)

@@ -58,7 +58,7 @@ betterOf B.PD B.PD = B.PD
 betterOf B.PD B.NE = B.PD
 betterOf B.NE y = y
 
--- what one counting visit more shows, with those before it: CR far enough after the start of a run of CR, CR or PR far enough after the first of them, CR, PR
+-- what one counting visit more shows, with those before it: CR that confirms the start of a run of CR, CR or PR that confirms the first of them, CR, PR
 -- or SD late enough, or progression
 abbrev pub bestShown : CountingVisits → Judged → Word
 bestShown c j =

@@ -96,7 +96,7 @@ pub record OpensChecked (e : Entry) (marks : List Bool) (sizes : List ℕ) (a : 
 unfoldable pub openedSubject : Record → Subject
 openedSubject r = pick (eqb (refusalOfOpening r) 0) (subjectOfEntry (r .entry) (r .marks) (r .sizes)) blankSubject
 
--- the first of 3 to 5 and 7, or the subject; and what the declared type of a record says of its arrays
+-- the first of 3 to 5 and 7, or the subject; and what the declared type of a record gives of its arrays
 pub record Opens (r : Record) (a : OpenAnswer) (s : Subject) : Type 0 where
   pub answer : openNumber a ≡ refusalOfOpening r
   pub made : s ≡ openedSubject r

@@ -4,7 +4,6 @@ use outcome_rules::MaybeDay;
 ghost use mathlib.Core.Path.{_≡_};
 ghost use Rattle.subject.specs.Days.{firstRecorded, confirmedOn};
 
-// Days between a response and its confirmation.
 const CONFIRMATION_DAYS: u64 = 28;
 
 pub(crate) fn first_recorded(before: MaybeDay, day: StudyDay) -> MaybeDay

@@ -53,7 +53,6 @@ pub struct FollowUp {
     pub earlier: Earlier,
     // The day of the last record, or day 1.
     pub latestday: StudyDay,
-    // A therapy is recorded.
     pub therapyrecorded: bool,
     pub deathday: MaybeDay,
     pub event: EventDays,

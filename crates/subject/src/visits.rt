@@ -9,7 +9,7 @@ use outcome_rules::JudgedVisit;
 use outcome_rules::MaybeDay;
 use outcome_values::best_of;
 use outcome_values::is_recorded;
-use response_rules::Overall;
+use response_rules::OverallAnswer;
 ghost use mathlib.Core.Path.{_≡_};
 ghost use Rattle.outcome_rules.specs.Course.{judgedValues};
 ghost use Rattle.subject.specs.OneVisitMore.{evaluableOn, eventAfter, bestFrom, betterOf, bestShown, firstResponseAfter, crStartAfter, countingAfter};
@@ -40,19 +40,19 @@ pub fn event_after(event: EventDays, visit: JudgedVisit) -> EventDays
     let previous = event.lastvisit;
     let evaluable = event.lastevaluable;
     match answer {
-        Overall::PD => EventDays {
+        OverallAnswer::PD => EventDays {
             progression: MaybeDay::On(day),
             lastvisit: previous,
             lastevaluable: evaluable,
         },
-        Overall::NE => EventDays {
+        OverallAnswer::NE => EventDays {
             progression: MaybeDay::Absent,
             lastvisit: day,
             lastevaluable: evaluable,
         },
-        Overall::CR => evaluable_on(day),
-        Overall::PR => evaluable_on(day),
-        Overall::SD => evaluable_on(day),
+        OverallAnswer::CR => evaluable_on(day),
+        OverallAnswer::PR => evaluable_on(day),
+        OverallAnswer::SD => evaluable_on(day),
     }
 }
 
@@ -97,16 +97,16 @@ fn best_shown(c: CountingVisits, visit: JudgedVisit) -> BestResponse
     let start = c.crstart;
     let late = STABLE_DISEASE_FROM <= day.0;
     match answer {
-        Overall::CR => best_of(
+        OverallAnswer::CR => best_of(
             confirmed_on(start, day),
             confirmed_on(first, day),
             late,
             false,
         ),
-        Overall::PR => best_of(false, confirmed_on(first, day), late, false),
-        Overall::SD => best_of(false, false, late, false),
-        Overall::PD => BestResponse::PD,
-        Overall::NE => BestResponse::NE,
+        OverallAnswer::PR => best_of(false, confirmed_on(first, day), late, false),
+        OverallAnswer::SD => best_of(false, false, late, false),
+        OverallAnswer::PD => BestResponse::PD,
+        OverallAnswer::NE => BestResponse::NE,
     }
 }
 
@@ -116,11 +116,11 @@ fn first_response_after(first: MaybeDay, visit: JudgedVisit) -> MaybeDay
     let day = visit.day;
     let answer = visit.answer;
     match answer {
-        Overall::CR => first_recorded(first, day),
-        Overall::PR => first_recorded(first, day),
-        Overall::SD => first,
-        Overall::PD => first,
-        Overall::NE => first,
+        OverallAnswer::CR => first_recorded(first, day),
+        OverallAnswer::PR => first_recorded(first, day),
+        OverallAnswer::SD => first,
+        OverallAnswer::PD => first,
+        OverallAnswer::NE => first,
     }
 }
 
@@ -130,11 +130,11 @@ fn cr_start_after(start: MaybeDay, visit: JudgedVisit) -> MaybeDay
     let day = visit.day;
     let answer = visit.answer;
     match answer {
-        Overall::CR => first_recorded(start, day),
-        Overall::PR => MaybeDay::Absent,
-        Overall::SD => MaybeDay::Absent,
-        Overall::PD => MaybeDay::Absent,
-        Overall::NE => start,
+        OverallAnswer::CR => first_recorded(start, day),
+        OverallAnswer::PR => MaybeDay::Absent,
+        OverallAnswer::SD => MaybeDay::Absent,
+        OverallAnswer::PD => MaybeDay::Absent,
+        OverallAnswer::NE => start,
     }
 }
 

@@ -1,7 +1,7 @@
 -- `adding::after::counting_unless` meets its contract.
 -- Assumes nothing.
 use borrow.Author.Needs.{needs}
-use Rattle.adding.proofs.Returns.{counted-or-closed}
+use Rattle.adding.proofs.Returns.{counting-or-closed}
 use Rattle.adding.proofs.after.counting_unless.Statement.{statement}
 use Rattle.adding.proofs.after.counting_unless.Tie as tie
 
@@ -11,4 +11,4 @@ counting-unless-spec =
     (tie.spec
     (λ c. search needs)
     (λ c κs. search needs)
-    (λ c. search counted-or-closed))
+    (λ c. search counting-or-closed))

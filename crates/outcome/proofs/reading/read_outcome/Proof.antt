@@ -1,7 +1,7 @@
 -- `outcome::reading::read_outcome` meets its contract.
 -- Assumes nothing.
 use borrow.Author.Needs.{needs}
-use Rattle.outcome.proofs.Returns.{enrolment-outside, follow-up-outside, read-told}
+use Rattle.outcome.proofs.Returns.{enrolment-outside, follow-up-outside, outcome-read}
 use Rattle.outcome.proofs.reading.read_outcome.Statement.{statement}
 use Rattle.outcome.proofs.reading.read_outcome.Tie as tie
 
@@ -14,4 +14,4 @@ read-outcome-spec =
     (λ c κs. search needs)
     (λ c. search follow-up-outside)
     (λ c κs. search needs)
-    (λ c. search read-told))
+    (λ c. search outcome-read))

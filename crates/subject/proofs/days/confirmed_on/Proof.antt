@@ -1,7 +1,7 @@
 -- `subject::days::confirmed_on` meets its contract.
 -- Assumes nothing.
 use borrow.Author.Needs.{needs}
-use Rattle.subject.proofs.Returns.{far-recorded}
+use Rattle.subject.proofs.Returns.{confirmed-recorded}
 use Rattle.subject.proofs.days.confirmed_on.Statement.{statement}
 use Rattle.subject.proofs.days.confirmed_on.Tie as tie
 
@@ -15,4 +15,4 @@ confirmed-on-spec =
     (λ c. search needs)
     (λ c. search needs)
     (λ c. search needs)
-    (λ c. search far-recorded))
+    (λ c. search confirmed-recorded))

@@ -1,7 +1,7 @@
 -- `subject::visits::counting_after` meets its contract.
 -- Assumes nothing.
 use borrow.Author.Needs.{needs}
-use Rattle.subject.proofs.Returns.{counted-made}
+use Rattle.subject.proofs.Returns.{counting-made}
 use Rattle.subject.proofs.visits.counting_after.Statement.{statement}
 use Rattle.subject.proofs.visits.counting_after.Tie as tie
 
@@ -13,4 +13,4 @@ counting-after-spec =
     (λ c κs. search needs)
     (λ c κs. search needs)
     (λ c κs. search needs)
-    (λ c. search counted-made))
+    (λ c. search counting-made))
