@@ -1,5 +1,5 @@
 pub mod HeldFollowsRecords
-pub mod AddingKeepsRange
+pub mod SubjectKeptInRange
 mod Returns
 mod AddingAnswers
 pub mod WorkedExamples

@@ -12,7 +12,7 @@ ghost use mathlib.Core.Path.{_≡_};
 ghost use Rattle.laws.specs.Choice.{pick};
 ghost use Rattle.outcome_rules.specs.Course.{judgedValues};
 ghost use Rattle.subject.specs.OneVisitMore.{countingAfter};
-ghost use Rattle.adding.specs.OneRecordMore.{judgedAs, judgedAdded, onLaterDay as laterOn, therapyAdded, deathAdded};
+ghost use Rattle.adding.specs.OneRecordMore.{judgedAs, judgedAdded, onLaterDay, therapyAdded, deathAdded};
 
 fn counting_unless(closed: bool, c: CountingVisits, visit: JudgedVisit) -> CountingVisits
     ensures { λ r. ⌜ r ≡ pick closed c (countingAfter c (judgedValues visit)) ⌝ }
@@ -50,8 +50,8 @@ pub(crate) fn after_visit(f: FollowUp, day: StudyDay, judged: VisitAnswer) -> Fo
 }
 
 // On a later day, with or without a therapy and a death.
-fn later(f: FollowUp, day: StudyDay, therapy: bool, death: MaybeDay) -> FollowUp
-    ensures { λ r. ⌜ r ≡ laterOn f day therapy death ⌝ }
+fn on_later_day(f: FollowUp, day: StudyDay, therapy: bool, death: MaybeDay) -> FollowUp
+    ensures { λ r. ⌜ r ≡ onLaterDay f day therapy death ⌝ }
 {
     let earlier = f.earlier;
     let event = f.event;
@@ -70,11 +70,11 @@ pub(crate) fn after_therapy(f: FollowUp, day: StudyDay) -> FollowUp
     ensures { λ r. ⌜ r ≡ therapyAdded f day ⌝ }
 {
     let death = f.deathday;
-    later(f, day, true, death)
+    on_later_day(f, day, true, death)
 }
 
 pub(crate) fn after_death(f: FollowUp, day: StudyDay) -> FollowUp
     ensures { λ r. ⌜ r ≡ deathAdded f day ⌝ }
 {
-    later(f, day, f.therapyrecorded, MaybeDay::On(day))
+    on_later_day(f, day, f.therapyrecorded, MaybeDay::On(day))
 }

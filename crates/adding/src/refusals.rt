@@ -39,7 +39,7 @@ pub(crate) fn read_answer(answer: ReadAnswer) -> AddAnswer
     }
 }
 
-pub(crate) fn first_refusal(inside: bool, own: AddAnswer, behind: AddAnswer) -> AddAnswer
+pub(crate) fn refusal_of_step(inside: bool, own: AddAnswer, behind: AddAnswer) -> AddAnswer
     ensures { λ a. ⌜ addNumber a ≡ refusalOfStepHeld inside (addNumber own) (addNumber behind) ⌝ }
 {
     if !inside {
@@ -52,7 +52,7 @@ pub(crate) fn first_refusal(inside: bool, own: AddAnswer, behind: AddAnswer) -> 
 }
 
 // 9 to 11.
-fn refusal_behind(f: FollowUp, early: bool, misfit: bool) -> AddAnswer
+fn refusal_of_later(f: FollowUp, early: bool, misfit: bool) -> AddAnswer
     ensures { λ a. ⌜ addNumber a ≡ first (refusalsOfLaterHeld f early misfit) ⌝ }
 {
     let death = f.deathday;
@@ -80,12 +80,12 @@ pub(crate) fn refusal_of_visit(
 {
     let status = v.status;
     let fit = fits(e.disease.count, e.nontarget, status, measured);
-    refusal_behind(f, day.0 <= f.latestday.0, !fit)
+    refusal_of_later(f, day.0 <= f.latestday.0, !fit)
 }
 
 // 9 and 10 of a therapy or a death, which is on or after the latest day.
-pub(crate) fn refusal_on_or_after(f: FollowUp, day: StudyDay) -> AddAnswer
+pub(crate) fn refusal_of_therapy_or_death(f: FollowUp, day: StudyDay) -> AddAnswer
     ensures { λ a. ⌜ addNumber a ≡ first (refusalsOfLaterHeld f (ltb (day .0) (f .latestday .0)) false) ⌝ }
 {
-    refusal_behind(f, day.0 < f.latestday.0, false)
+    refusal_of_later(f, day.0 < f.latestday.0, false)
 }

@@ -7,9 +7,9 @@ use super::add_number;
 use super::after::after_death;
 use super::after::after_therapy;
 use super::after::after_visit;
-use super::refusals::first_refusal;
+use super::refusals::refusal_of_step;
+use super::refusals::refusal_of_therapy_or_death;
 use super::refusals::refusal_of_visit;
-use super::refusals::refusal_on_or_after;
 use dates::StudyDay;
 use records::Entry;
 use records::VisitEntry;
@@ -79,7 +79,7 @@ fn step_visit(inside: bool, e: Enrolment, f: FollowUp, x: Dated, v: VisitEntry) 
     let measured = found.marks;
     let sizes = found.sizes;
     let behind = refusal_of_visit(e, f, x.day, v, measured);
-    let refusal = first_refusal(inside, own, behind);
+    let refusal = refusal_of_step(inside, own, behind);
     if add_number(refusal) != 0 {
         return refused(f, refusal);
     }
@@ -91,8 +91,8 @@ fn step_later(inside: bool, f: FollowUp, x: Dated, next: FollowUp) -> Step
     ensures { λ y. ⌜ StepsLater inside f x next y ⌝ }
 {
     let own = x.own;
-    let behind = refusal_on_or_after(f, x.day);
-    let refusal = first_refusal(inside, own, behind);
+    let behind = refusal_of_therapy_or_death(f, x.day);
+    let refusal = refusal_of_step(inside, own, behind);
     if add_number(refusal) != 0 {
         return refused(f, refusal);
     }
@@ -109,7 +109,7 @@ pub(crate) fn step(inside: bool, e: Enrolment, f: FollowUp, x: Dated) -> Step
     let found = x.found;
     let entry = found.entry;
     match entry {
-        Entry::Baseline(_) => refused(f, first_refusal(inside, own, AddAnswer::SecondBaseline)),
+        Entry::Baseline(_) => refused(f, refusal_of_step(inside, own, AddAnswer::SecondBaseline)),
         Entry::Visit(v) => step_visit(inside, e, f, x, v),
         Entry::Therapy(_) => step_later(inside, f, x, after_therapy(f, x.day)),
         Entry::Death(_) => step_later(inside, f, x, after_death(f, x.day)),

@@ -36,7 +36,7 @@ use Rattle.file.specs.Verdict.{refusalOfPart, Verdict, refused, accepted
 use Rattle.file.specs.FileAsCalls.{firstNumber, AddsParts, none, adds, CallsOnParts, opens, Stop, never, at, firstStop, FileAsCalls}
 use Rattle.file.proofs.VerdictsApart.{apart, accepted-same}
 use Rattle.codec.proofs.PartsJoined.{length-parts, cut}
-use Rattle.file.proofs.CallsHaveAnswers.{called}
+use Rattle.file.proofs.EveryPartAnswered.{called}
 use Rattle.file.proofs.FileFollowsRecords.{Taken, none-read, alone, opened-taken, adding, more, lines-more, EndsBy, read-verdict}
 
 -- reading's number, then the other, is the part's refusal

@@ -28,7 +28,7 @@ use Rattle.outcome_rules.specs.Course.{course, countingVisits}
 use Rattle.outcome_rules.specs.Duration.{firstResponse}
 use Rattle.outcome_rules.specs.VisitLines.{VisitLine, linesOfRecord, visitLines, linesInOrder}
 use Rattle.outcome_rules.specs.Adding.{notBaseline, refusalsOfOpening, refusalsOfAdding, refusalOfAdding}
-use Rattle.outcome_rules.proofs.AddingRefusals.{own-passed}
+use Rattle.outcome_rules.proofs.RefusalsOfAdding.{own-passed}
 use Rattle.subject.specs.declared.Subject.{Subject}
 use Rattle.subject.specs.Summary.{countingOf, summary}
 use Rattle.subject.proofs.HeldFollowsVisits.{day-of-maybe}

@@ -1,5 +1,5 @@
 pub mod AtTheEdges
-pub mod CallsHaveAnswers
+pub mod EveryPartAnswered
 pub mod FileFollowsRecords
 mod Returns
 pub mod FileAsCalls

@@ -18,14 +18,14 @@ use Rattle.outcome_rules.specs.StudyRecords.{Baseline, StudyRecord, dayOf, entr
 use Rattle.outcome_rules.specs.LawfulLists.{Past}
 use Rattle.outcome_rules.specs.VisitLines.{linesOfRecord}
 use Rattle.outcome_rules.specs.Adding.{refusalsOfStudyRecord, refusalsOfAdding}
-use Rattle.outcome_rules.proofs.AddingRefusals.{one-more, own-passed}
+use Rattle.outcome_rules.proofs.RefusalsOfAdding.{one-more, own-passed}
 use Rattle.subject.specs.declared.Subject.{Subject}
 use Rattle.adding.specs.declared.AddAnswer.{AddAnswer}
 use Rattle.adding.specs.declared.AddAnswer.the-variants as A
 use Rattle.adding.specs.Responses.{responseValues, addResponses}
 use Rattle.adding.specs.Refusals.{addNumber}
 use Rattle.adding.specs.Promises.{Adds}
-use Rattle.adding.proofs.AddingKeepsRange.{study-day-most}
+use Rattle.adding.proofs.SubjectKeptInRange.{study-day-most}
 use Rattle.outcome.proofs.Demand3.{base, on-day, past, responses}
 use Rattle.file.proofs.FileFollowsRecords.{Taken, accepts}
 use Rattle.listing_text.specs.Text.{visitText, linesText}

@@ -25,7 +25,7 @@ use Rattle.adding.specs.Promises.{Adds, AddsBytes}
 use Rattle.outcome.specs.ReadingOutcome.{outcome, pfsHeld, durationHeld, outcomeOf}
 use Rattle.outcome.specs.Laws.{ReadingWithin}
 use Rattle.outcome.proofs.CallsInRange.{calls-in-range, reading-in-range}
-use Rattle.outcome.proofs.CallsHaveAnswers.{readable}
+use Rattle.outcome.proofs.EveryCallAnswered.{readable}
 use Rattle.file.specs.declared.FileAnswer.{FileAnswer}
 use Rattle.codec.specs.Parts.{mostRecords, mostBytes, badLength, partsOf}
 use Rattle.file.specs.Verdict.{refused, accepted, unlessRefused, startsLate, verdictOf, fileValues, JudgesFile}

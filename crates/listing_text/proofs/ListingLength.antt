@@ -22,7 +22,7 @@ use Rattle.outcome_rules.specs.Course.{course}
 use Rattle.outcome_rules.specs.VisitLines.{visitLines}
 use Rattle.outcome_rules.specs.Settled.{outcome}
 use Rattle.outcome_rules.specs.Adding.{refusalsOfStudyRecordInOrder, refusalsOfOpening, refusalsOfAdding, refusalOfAdding}
-use Rattle.outcome_rules.proofs.AddingRefusals.{own-passed}
+use Rattle.outcome_rules.proofs.RefusalsOfAdding.{own-passed}
 use Rattle.subject.specs.declared.Subject.{Subject}
 use Rattle.subject.specs.Laws.{Within}
 use Rattle.subject.specs.Summary.{summary}
@@ -30,8 +30,8 @@ use Rattle.subject.proofs.RangeLaws.{subject-within}
 use Rattle.adding.specs.Promises.{subjectBy, refusalOfAddingHeld}
 use Rattle.outcome.specs.Laws.{DurationWithin, ReadingWithin}
 use Rattle.outcome.proofs.CallsInRange.{calls-in-range}
-use Rattle.outcome.proofs.CallsHaveAnswers.{opens, readable}
-use Rattle.outcome.proofs.AdditionsHaveAnswers.{some-addition}
+use Rattle.outcome.proofs.EveryCallAnswered.{opens, readable}
+use Rattle.outcome.proofs.EveryAdditionAnswered.{some-addition}
 use Rattle.outcome.proofs.Demand3.{opened-with, base, on-day, past, past-one-more, Held, one-more-held, reading}
 use Rattle.codec.specs.Parts.{mostRecords, badLength, parts, partsOf}
 use Rattle.file.specs.Verdict.{refusalOfPart, refused, accepted, unlessRefused, responseStartsLate, verdictFrom, verdictOf}

@@ -14,7 +14,7 @@ use Rattle.codec.specs.Reading.{refusalsOfBytes, recordOfBytes}
 use Rattle.codec.proofs.NoRefusalOfBytes.{each-of-bytes}
 use Rattle.outcome_rules.specs.StudyRecords.{StudyRecord, baseline, visit, therapy, death, onStudyDay, onStudyDays}
 use Rattle.outcome_rules.specs.Adding.{refusalsOfStudyRecordInOrder, notBaseline, refusalsOfOpening, refusalsOfAdding}
-use Rattle.outcome_rules.proofs.AddingRefusals.{each-behind}
+use Rattle.outcome_rules.proofs.RefusalsOfAdding.{each-behind}
 use Rattle.file.specs.Verdict.{refusalsOfPart, refusalOfPart}
 
 -- a number of at most two digits

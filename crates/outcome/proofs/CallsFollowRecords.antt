@@ -24,7 +24,7 @@ use Rattle.outcome_rules.specs.VisitLines.{linesOfRecord}
 use Rattle.outcome_rules.specs.Settled.{pfsSettledBy, bestSettledBy, durationSettledBy, pfsSettled, bestSettled, durationSettled, outcome}
 use Rattle.outcome_rules.specs.Adding.{refusalsOfStudyRecord}
 use Rattle.outcome_rules.proofs.OneRecordMore.{latest-in, death-in}
-use Rattle.outcome_rules.proofs.AddingRefusals.{one-more}
+use Rattle.outcome_rules.proofs.RefusalsOfAdding.{one-more}
 use Rattle.subject.specs.declared.Subject.{Subject}
 use Rattle.subject.specs.Range.{inRange}
 use Rattle.subject.specs.Days.{maybe}

@@ -34,7 +34,7 @@ use Rattle.adding.specs.declared.AddAnswer.{AddAnswer}
 use Rattle.adding.specs.Responses.{addResponses}
 use Rattle.adding.specs.Refusals.{addNumber}
 use Rattle.adding.specs.Promises.{refusalsOfRecordHeld, addedHeld, Answered, refusalOfAddingHeld, Adds, refusalOfAddingBytesHeld, AddsBytes}
-use Rattle.adding.proofs.AddingKeepsRange.{adding-within}
+use Rattle.adding.proofs.SubjectKeptInRange.{adding-within}
 use Rattle.subject.specs.declared.OpenAnswer.{OpenAnswer}
 use Rattle.outcome.specs.declared.OutcomeAnswer.{OutcomeAnswer}
 use Rattle.outcome.specs.ReadingOutcome.{refused, outcome, readingValues, pfsHeld, bestHeld, outcomeOf, readingOf, ReadsOutcome}

@@ -21,8 +21,8 @@ use Rattle.outcome_rules.specs.LawfulLists.{Past, lawfulBehind}
 use Rattle.outcome_rules.specs.MarksExact.{MarksExactOn}
 use Rattle.outcome_rules.specs.VisitLines.{VisitLine}
 use Rattle.outcome_rules.specs.Adding.{refusalsOfStudyRecord, notBaseline, refusalsOfOpening, refusalOfOpening, refusalsOfAdding, refusalOfAdding, responsesOfAdding, Call, add, acceptedAfter, accepted}
-use Rattle.outcome_rules.proofs.AddingRefusals.{each-behind}
-use Rattle.outcome_rules.proofs.AcceptedRecords.{accepted-lawful, accepted-exact}
+use Rattle.outcome_rules.proofs.RefusalsOfAdding.{each-behind}
+use Rattle.outcome_rules.proofs.RecordsAccepted.{accepted-lawful, accepted-exact}
 use Rattle.subject.specs.declared.Subject.{Subject}
 use Rattle.subject.specs.Opening.{openNumber, subjectOfEntry, openedSubject, Opens}
 use Rattle.subject.specs.Range.{inRange}
@@ -39,7 +39,7 @@ use Rattle.outcome.specs.Demand3.{Reply, added, outcomeRead, Calls, none
 use Rattle.outcome.specs.HeldAfter.{Summarises, HeldAfterCalls}
 use Rattle.outcome.proofs.CallsFollowRecords.{refusal-held, responses-held, longer-lawful, added-held, refused-held, outcome-held}
 use Rattle.outcome.proofs.CallsInRange.{calls-in-range, reading-in-range}
-use Rattle.outcome.proofs.CallsHaveAnswers.{opens, runs, readable}
+use Rattle.outcome.proofs.EveryCallAnswered.{opens, runs, readable}
 
 -- a number that is not 12
 abbrev Not12 : ℕ → Type 0

@@ -1,7 +1,7 @@
 pub mod CallsFollowRecords
 pub mod CallsInRange
-pub mod AdditionsHaveAnswers
-pub mod CallsHaveAnswers
+pub mod EveryAdditionAnswered
+pub mod EveryCallAnswered
 pub mod Demand3
 mod Returns
 pub mod WorkedExamples

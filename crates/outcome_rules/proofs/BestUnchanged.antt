@@ -1,4 +1,4 @@
--- Reasons for which best response and duration last: each further occurrence of a lawful list keeps them, and a reason for it. The marks are not named
+-- Reasons for which best response and duration stay unchanged: each further occurrence of a lawful list keeps them, and a reason for it. The marks are not named
 -- here.
 -- Assumes nothing.
 use mathlib.Core.Path.{_≡_, refl, sym, ap, _∙_}
@@ -122,13 +122,13 @@ best-keeps c e f (complete q) =
 pub best-unchanged : (b : Baseline) (p : Past) → BestOver (b .assessed) (course b p) → Unchanged best b p
 best-unchanged b p why = unchanged-by best (BestOver (b .assessed)) b best-keeps p why
 
--- duration: PFS lasts, or there is none and no counting visit can make one
+-- duration: PFS stays unchanged, or there is none and no counting visit can make one
 pub data DurationOver (assessed : Bool) (c : Course) : Type 0 where
   ended : PfsOver assessed c → DurationOver assessed c
   without : isResponse (best c) ≡ false → CountingOver assessed c → DurationOver assessed c
 
 module _ {assessed : Bool} (c : Course) where
-  -- where PFS lasts no evaluable visit is to be counted
+  -- where PFS stays unchanged no evaluable visit is to be counted
   pfs-counting : PfsOver assessed c → CountingOver assessed c
   pfs-counting (progressed q) = closed (either-right (therapyRecorded c) (isRecorded (progression c)) q)
   pfs-counting (dead q) = afterDeath q

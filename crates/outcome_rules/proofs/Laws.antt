@@ -3,8 +3,8 @@
 use Rattle.outcome_rules.specs.Laws.{ListLaws, AddingLaws, CallLaws}
 use Rattle.outcome_rules.proofs.OneRecordMore.{latest-is-last, latest-in, death-in}
 use Rattle.outcome_rules.proofs.BestChanged.{duration-exists}
-use Rattle.outcome_rules.proofs.AddingRefusals.{one-more, too-early, own-passed}
-use Rattle.outcome_rules.proofs.AcceptedRecords.{accepted-lawful, added-exactly, accepted-exact}
+use Rattle.outcome_rules.proofs.RefusalsOfAdding.{one-more, too-early, own-passed}
+use Rattle.outcome_rules.proofs.RecordsAccepted.{accepted-lawful, added-exactly, accepted-exact}
 
 pub list-laws : ListLaws
 list-laws = record { latestIsLast = latest-is-last; latestInCourse = latest-in; deathInCourse = death-in; durationExists = duration-exists }

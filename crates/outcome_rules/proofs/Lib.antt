@@ -9,6 +9,6 @@ pub mod PfsChanged
 pub mod BestChanged
 pub mod MarksExact
 pub mod MarksExactInOrder
-pub mod AddingRefusals
-pub mod AcceptedRecords
+pub mod RefusalsOfAdding
+pub mod RecordsAccepted
 pub mod Laws

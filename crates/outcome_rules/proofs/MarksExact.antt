@@ -1,4 +1,4 @@
--- Each mark is true exactly when its part lasts. The marks are opened here alone.
+-- Each mark is true exactly when no run changes its part. The marks are opened here alone.
 -- Assumes nothing.
 use mathlib.Core.Path.{_≡_, refl, sym, ap, _∙_}
 use mathlib.Core.Bool.{Bool, true, false}
@@ -32,7 +32,7 @@ fails : {m : Bool} {A : Type 0} → m ≡ false → (A → ⊥) → (m ≡ true)
 fails e n = (λ t. absurd (never (sym t ∙ e)), λ x. absurd (n x))
 
 module _ (assessed : Bool) (c : Course) {A : Type 0} where
-  -- PFS's mark is true exactly when A holds, where A follows from each reason for PFS to last and is false without one
+  -- PFS's mark is true exactly when A holds, where A follows from each reason for PFS to stay unchanged and is false without one
   pfs-mark : (PfsOver assessed c → A) →
       (deathDayIn c ≡ none → assessed ≡ true → progression c ≡ none → A → ⊥) →
       (deathDayIn c ≡ none → assessed ≡ false → latestDayIn c - 1 ≤ earlyDeathLimit → A → ⊥) →

@@ -1,4 +1,4 @@
--- Reasons for which PFS lasts: each further occurrence of a lawful list keeps it, and a reason for it. The mark is not named here.
+-- Reasons for which PFS stays unchanged: each further occurrence of a lawful list keeps it, and a reason for it. The mark is not named here.
 -- Assumes nothing.
 use mathlib.Core.Path.{_≡_, refl, sym, ap, _∙_}
 use mathlib.Core.Bool.{Bool, true, false}

@@ -1,4 +1,4 @@
--- What lasts is the same after the runs that are built here: a CR visit on the day after the latest, two CR visits that confirm each other, and a death.
+-- A part that no run changes is the same after the runs that are built here: a CR visit on the day after the latest, two CR visits that confirm each other, and a death.
 -- Assumes nothing.
 use mathlib.Core.Path.{_≡_, refl}
 use mathlib.Core.Bool.{true, false}

@@ -45,5 +45,5 @@ pub record CallLaws : Type 0 where
   -- behind which a record goes exactly where none of 3 to 5 meets it and the list with it is lawful
   pub addedExactly : (b : Record) (cs : List Call) (r : Record) → refusalOfOpening b ≡ 0 →
       (refusalOfAdding (accepted b cs) r ≡ 0) ↔ ((refusalOfRecord r ≡ 0) × (lawful (onStudyDays (accepted b cs ++ (r ∷ []))) ≡ true))
-  -- and each mark of the outcome of that list is true exactly when its part lasts
+  -- and each mark of the outcome of that list is true exactly when no run changes its part
   pub acceptedExact : (b : Record) (cs : List Call) → Five b → refusalOfOpening b ≡ 0 → MarksExactOn (onStudyDays (accepted b cs))

@@ -14,7 +14,7 @@ use Rattle.outcome_rules.specs.Settled.{outcome}
 abbrev pub NoRunChanges : {A : Type 0} → (Outcome → A) → Baseline → Past → Type 0
 NoRunChanges part b p = (run : Past) → allPass run ≡ true → lawfulBehind b (run ++ p) ≡ true → part (outcome b (run ++ p)) ≡ part (outcome b p)
 
--- each mark is true exactly when its part lasts
+-- each mark is true exactly when no run changes its part
 pub record MarksExact (b : Baseline) (p : Past) : Type 0 where
   pub pfs : (outcome b p .pfsSettled ≡ true) ↔ NoRunChanges (λ (o : Outcome). o .pfs) b p
   pub best : (outcome b p .bestSettled ≡ true) ↔ NoRunChanges (λ (o : Outcome). o .best) b p

@@ -77,7 +77,7 @@ nadirs-by-the-term =
 
 pub wrong-readings : WrongReadings
 unfolding sumOfDiameters baselineSum allMeasured allDisappeared progressionFromNadir partialResponse targetAnswer afterVisit overallBy overallAnswer
-wrong-readings = record { grownFromNadir = refl; progressionFirst = refl; incompleteSum = refl; oneGone = refl }
+wrong-readings = record { againstNadir = refl; progressionFirst = refl; incompleteSum = refl; oneDisappeared = refl }
 
 pub printed-visits : Printed
 unfolding sumOfDiameters baselineSum allMeasured allDisappeared progressionFromNadir partialResponse targetAnswer afterVisit overallBy overallAnswer changeBetween changeOf

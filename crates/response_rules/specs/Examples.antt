@@ -138,13 +138,13 @@ pub record NadirsByTheTerm : Type 0 where
 
 pub record WrongReadings : Type 0 where
   -- growth against baseline alone: the sum is half the baseline's and three times the nadir
-  pub grownFromNadir : targetAnswerAfter (baselineWith [] (100 ∷ [])) (measuring (15 ∷ []) ∷ []) (measuring (50 ∷ [])) ≡ PD
+  pub againstNadir : targetAnswerAfter (baselineWith [] (100 ∷ [])) (measuring (15 ∷ []) ∷ []) (measuring (50 ∷ [])) ≡ PD
   -- PR before PD: the same sum is also at most 70 % of the baseline's
   pub progressionFirst : overallAnswerAfter (baselineWith [] (100 ∷ [])) (measuring (15 ∷ []) ∷ []) (measuring (50 ∷ [])) ≡ PD
   -- an incomplete sum as nadir: one target of two was measured, with 10 mm
   pub incompleteSum : targetAnswerAfter (baselineWith [] (60 ∷ 40 ∷ [])) (measuring (10 ∷ []) ∷ []) (measuring (40 ∷ 35 ∷ [])) ≡ SD
   -- CR with a target unmeasured
-  pub oneGone : targetAnswerAfter (baselineWith [] (60 ∷ 40 ∷ [])) [] (measuring (0 ∷ [])) ≡ NE
+  pub oneDisappeared : targetAnswerAfter (baselineWith [] (60 ∷ 40 ∷ [])) [] (measuring (0 ∷ [])) ≡ NE
 
 -- the printed example: targets 40 and node 20; visits on days 43, 85 and 127
 abbrev pub printed : BaselineDisease

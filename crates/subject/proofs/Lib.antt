@@ -6,4 +6,4 @@ pub mod WorkedExamples
 pub mod HeldAfterBaseline
 pub mod OpeningInRange
 mod OpeningReturns
-pub mod OpeningExamples
+pub mod WorkedExamplesOfOpening

@@ -6,4 +6,4 @@ use Rattle.adding.proofs.after.after_death.Statement.{statement}
 use Rattle.adding.proofs.after.after_death.Tie as tie
 
 pub after-death-spec : {M : Type 1} → statement M
-after-death-spec = tie.close (tie.spec (λ c κs. search needs) (λ c. unfold deathAdded in c .later .ensures))
+after-death-spec = tie.close (tie.spec (λ c κs. search needs) (λ c. unfold deathAdded in c .on-later-day .ensures))

@@ -6,4 +6,4 @@ use Rattle.adding.proofs.after.after_therapy.Statement.{statement}
 use Rattle.adding.proofs.after.after_therapy.Tie as tie
 
 pub after-therapy-spec : {M : Type 1} → statement M
-after-therapy-spec = tie.close (tie.spec (λ c κs. search needs) (λ c. unfold therapyAdded in c .later .ensures))
+after-therapy-spec = tie.close (tie.spec (λ c κs. search needs) (λ c. unfold therapyAdded in c .on-later-day .ensures))

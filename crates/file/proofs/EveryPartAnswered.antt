@@ -23,8 +23,8 @@ use Rattle.codec.proofs.FiveMarksAndSizes.{found-five}
 use Rattle.subject.specs.declared.Subject.{Subject}
 use Rattle.outcome_rules.specs.VisitLines.{VisitLine}
 use Rattle.adding.specs.Promises.{subjectBy, refusalOfAddingHeld}
-use Rattle.outcome.proofs.AdditionsHaveAnswers.{some-addition}
-use Rattle.outcome.proofs.CallsHaveAnswers.{opens as some-opening, readable}
+use Rattle.outcome.proofs.EveryAdditionAnswered.{some-addition}
+use Rattle.outcome.proofs.EveryCallAnswered.{opens as some-opening, readable}
 use Rattle.codec.specs.Parts.{badLength, parts, partsOf}
 use Rattle.file.specs.FileAsCalls.{AddsParts, none, adds, opens, PartsCalled}
 use Rattle.codec.proofs.PartsJoined.{one-part}

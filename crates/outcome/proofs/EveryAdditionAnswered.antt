@@ -41,7 +41,7 @@ use Rattle.adding.specs.declared.AddAnswer.the-variants as A
 use Rattle.adding.specs.OneRecordMore.{overallHeld}
 use Rattle.adding.specs.Responses.{responseValues, addResponses, lineHeld, linesHeld}
 use Rattle.adding.specs.Refusals.{addNumber}
-use Rattle.adding.proofs.AddingKeepsRange.{each-on}
+use Rattle.adding.proofs.SubjectKeptInRange.{each-on}
 use Rattle.adding.specs.Promises.{studyDayHeld, refusalsOfRecordHeld, responsesBy, subjectBy, refusalOfAddingHeld, Adds}
 
 -- ---- the responses at a visit

@@ -23,7 +23,7 @@ use Rattle.outcome_rules.specs.LawfulLists.{lawful}
 use Rattle.outcome_rules.specs.Adding.{refusalsOfStudyRecordInOrder, notBaseline, refusalsOfOpening, refusalOfOpening, refusalsOfAdding, refusalOfAdding, Call, add, read, acceptedAfter, accepted}
 use Rattle.outcome_rules.specs.MarksExact.{MarksExactOn}
 use Rattle.outcome_rules.proofs.MarksExactInOrder.{every-mark-exact-in-order}
-use Rattle.outcome_rules.proofs.AddingRefusals.{one-more, own-passed}
+use Rattle.outcome_rules.proofs.RefusalsOfAdding.{one-more, own-passed}
 
 -- one record more behind a list in the order recorded
 one-more-in-order : (s : StudyRecord) (ss : List StudyRecord) (r : StudyRecord) → lawful (s ∷ ss) ≡ true →

@@ -25,7 +25,7 @@ use Rattle.outcome.specs.declared.OutcomeAnswer.{OutcomeAnswer}
 use Rattle.outcome.specs.declared.OutcomeAnswer.the-variants as R
 use Rattle.outcome.specs.ReadingOutcome.{pfsHeld, durationHeld, outcomeOf, readingOf, ReadsOutcome}
 use Rattle.outcome.specs.Demand3.{none, adds, reads, Runs}
-use Rattle.outcome.proofs.AdditionsHaveAnswers.{some-addition}
+use Rattle.outcome.proofs.EveryAdditionAnswered.{some-addition}
 
 pub opens : (b : Record) → Five b → (a : OpenAnswer) × (s : Subject) × Opens b a s
 unfolding refusalsOfOpening
