@@ -21,7 +21,7 @@ use Rattle.outcome_rules.specs.declared.MaybeDay.the-variants as M
 use Rattle.outcome_rules.specs.AddingExamples.{printedBaseline, printedVisit43}
 use Rattle.subject.specs.declared.Subject.{Subject}
 use Rattle.subject.specs.declared.CountingVisits.{CountingVisits}
-use Rattle.subject.specs.HeldExamples.{day, onDay, events, counts, noEvents, noCounts, disease, subjectWith, printedWith, printedOpened, printedVisited}
+use Rattle.subject.specs.HeldExamples.{day, onDay, events, counts, noEvents, noCounts, disease, subjectWith, printedWith, printedOpened, printedAfterVisit43}
 use Rattle.adding.specs.Responses.{addResponses}
 use Rattle.adding.specs.Refusals.{addNumber}
 use Rattle.adding.specs.Promises.{refusalsOfRecordHeld, responsesHeld, addedHeld, responsesBy, subjectBy, refusalOfAddingHeld, refusalOfAddingBytesHeld}
@@ -77,23 +77,23 @@ pub record FirstRefusals : Type 0 where
   pub secondBaseline : first (refusalsOfRecordHeld afterDeath50 (printedBaseline (ymd 2020 2 12))) ≡ 8
   pub afterDeath : first (refusalsOfRecordHeld afterDeath50 (therapyDated (ymd 2020 2 1))) ≡ 9
   -- 10: a visit on the latest day, a therapy and a death before it; not on it
-  pub visitOnLatest : first (refusalsOfRecordHeld printedVisited printedVisit43) ≡ 10
-  pub therapyBefore : first (refusalsOfRecordHeld printedVisited (therapyDated (ymd 2020 2 11))) ≡ 10
-  pub therapyOnLatest : first (refusalsOfRecordHeld printedVisited (therapyDated (ymd 2020 2 12))) ≡ 0
-  pub deathBefore : first (refusalsOfRecordHeld printedVisited (deathDated (ymd 2020 2 11))) ≡ 10
-  pub deathOnLatest : first (refusalsOfRecordHeld printedVisited (deathDated (ymd 2020 2 12))) ≡ 0
+  pub visitOnLatest : first (refusalsOfRecordHeld printedAfterVisit43 printedVisit43) ≡ 10
+  pub therapyBefore : first (refusalsOfRecordHeld printedAfterVisit43 (therapyDated (ymd 2020 2 11))) ≡ 10
+  pub therapyOnLatest : first (refusalsOfRecordHeld printedAfterVisit43 (therapyDated (ymd 2020 2 12))) ≡ 0
+  pub deathBefore : first (refusalsOfRecordHeld printedAfterVisit43 (deathDated (ymd 2020 2 11))) ≡ 10
+  pub deathOnLatest : first (refusalsOfRecordHeld printedAfterVisit43 (deathDated (ymd 2020 2 12))) ≡ 0
   pub beforeRandomisation : first (refusalsOfRecordHeld printedOpened (therapyDated (ymd 2019 12 31))) ≡ 10
   -- 10 before 11
-  pub misfitOnLatest : first (refusalsOfRecordHeld printedVisited (visitDated (ymd 2020 2 12) S.NA false [] [])) ≡ 10
+  pub misfitOnLatest : first (refusalsOfRecordHeld printedAfterVisit43 (visitDated (ymd 2020 2 12) S.NA false [] [])) ≡ 10
   pub statusNA : first (refusalsOfRecordHeld printedOpened (visitDated (ymd 2020 2 12) S.NA false [] [])) ≡ 11
   pub statusWithoutLesions : first (refusalsOfRecordHeld withoutNontarget printedVisit43) ≡ 11
   pub beyondCount : first (refusalsOfRecordHeld printedOpened (visitDated (ymd 2020 2 12) S.NN false (false ∷ false ∷ true ∷ []) [])) ≡ 11
 
 pub record AddedAtTheEdges : Type 0 where
   -- the nadir, v, the last evaluable visit and the first counting response move with a visit; a therapy and a death are recorded
-  pub visit : addedHeld printedOpened printedVisit43 ≡ printedVisited
-  pub therapy : addedHeld printedVisited (therapyDated (ymd 2020 2 19)) ≡ afterTherapy50
-  pub death : addedHeld printedVisited (deathDated (ymd 2020 2 19)) ≡ afterDeath50
+  pub visit : addedHeld printedOpened printedVisit43 ≡ printedAfterVisit43
+  pub therapy : addedHeld printedAfterVisit43 (therapyDated (ymd 2020 2 19)) ≡ afterTherapy50
+  pub death : addedHeld printedAfterVisit43 (deathDated (ymd 2020 2 19)) ≡ afterDeath50
   -- after a therapy v and the last evaluable visit move, and no visit counts
   pub afterTherapy : addedHeld afterTherapy50 visit85 ≡ printedWith 36 85 true M.Absent (events M.Absent 85 (onDay 85)) response43
   -- after a progression the latest day alone moves
@@ -105,15 +105,15 @@ pub record AddedAtTheEdges : Type 0 where
 pub record LinesAtTheEdges : Type 0 where
   -- V 43 PR NN PR -40.0; therapy and death print no line of their own
   pub visit : responsesHeld printedOpened printedVisit43 ≡ record { day = 43; target = PR; nontarget = NN; overall = PR; change = signed true 400 } ∷ []
-  pub therapy : responsesHeld printedVisited (therapyDated (ymd 2020 2 19)) ≡ []
-  pub death : responsesHeld printedVisited (deathDated (ymd 2020 2 19)) ≡ []
+  pub therapy : responsesHeld printedAfterVisit43 (therapyDated (ymd 2020 2 19)) ≡ []
+  pub death : responsesHeld printedAfterVisit43 (deathDated (ymd 2020 2 19)) ≡ []
   -- behind a progression too: V 85 PR NN PR -40.0
   pub afterProgression : responsesHeld progressed visit85 ≡ record { day = 85; target = PR; nontarget = NN; overall = PR; change = signed true 400 } ∷ []
   -- baseline missing: NE, new lesion or not
   pub missing : responsesHeld baselineMissing (visitDated (ymd 2020 2 12) S.NA true [] [])
       ≡ record { day = 43; target = NA; nontarget = NA; overall = NE; change = none } ∷ []
   -- a new lesion gives PD: V 85 PR NE PD -40.0
-  pub newLesion : responsesHeld printedVisited (visitDated (ymd 2020 3 25) S.NE true (true ∷ true ∷ []) (24 ∷ 12 ∷ []))
+  pub newLesion : responsesHeld printedAfterVisit43 (visitDated (ymd 2020 3 25) S.NE true (true ∷ true ∷ []) (24 ∷ 12 ∷ []))
       ≡ record { day = 85; target = PR; nontarget = NE; overall = PD; change = signed true 400 } ∷ []
 
 -- a subject out of range by its latest day
@@ -140,11 +140,11 @@ pub record OrderFromBytes : Type 0 where
   pub secondBaseline : refusalOfAddingBytesHeld printedOpened printedBytes ≡ 8
   -- the printed visit, and a second time on its day
   pub visit : refusalOfAddingBytesHeld printedOpened printedVisitBytes ≡ 0
-  pub visitAgain : refusalOfAddingBytesHeld printedVisited printedVisitBytes ≡ 10
+  pub visitAgain : refusalOfAddingBytesHeld printedAfterVisit43 printedVisitBytes ≡ 10
 
 -- what stands beside a number: the responses and the next subject, or nothing and the same subject
 pub record BesideNumbers : Type 0 where
   pub done : responsesBy printedOpened printedVisit43 0 ≡ record { day = 43; target = PR; nontarget = NN; overall = PR; change = signed true 400 } ∷ []
-  pub next : subjectBy printedOpened printedVisit43 0 ≡ printedVisited
+  pub next : subjectBy printedOpened printedVisit43 0 ≡ printedAfterVisit43
   pub refused : responsesBy printedOpened printedVisit43 10 ≡ []
   pub same : subjectBy printedOpened printedVisit43 10 ≡ printedOpened

@@ -22,7 +22,7 @@ use Rattle.outcome_rules.specs.AddingExamples.{printedBaseline, printedVisit43}
 use Rattle.subject.specs.declared.EventDays.{EventDays}
 use Rattle.subject.specs.declared.CountingVisits.{CountingVisits}
 use Rattle.subject.specs.declared.Subject.{Subject}
-use Rattle.subject.specs.HeldExamples.{day, onDay, events, counts, noEvents, noCounts, disease, subjectWith, printedOpened, printedVisited}
+use Rattle.subject.specs.HeldExamples.{day, onDay, events, counts, noEvents, noCounts, disease, subjectWith, printedOpened, printedAfterVisit43}
 use Rattle.subject.specs.Opening.{blankSubject}
 use Rattle.adding.specs.Promises.{subjectBy, refusalOfAddingHeld}
 use Rattle.adding.specs.Examples.{afterTherapy50, afterDeath50}
@@ -42,10 +42,10 @@ pub record FirstRefusals : Type 0 where
   pub secondBaseline : refusalOfAddingHeld printedOpened (printedBaseline (ymd 2020 1 1)) ≡ 8
   pub fitting : refusalOfAddingHeld printedOpened printedVisit43 ≡ 0
   -- the subject keeps every value where a refusal meets
-  pub keptEarly : after printedVisited (therapyDated (ymd 2020 2 11)) ≡ printedVisited
-  pub keptUnmeasured : after printedVisited (visitDated (ymd 2020 3 25) S.NN false [] (12 ∷ [])) ≡ printedVisited
+  pub keptEarly : after printedAfterVisit43 (therapyDated (ymd 2020 2 11)) ≡ printedAfterVisit43
+  pub keptUnmeasured : after printedAfterVisit43 (visitDated (ymd 2020 3 25) S.NN false [] (12 ∷ [])) ≡ printedAfterVisit43
   pub keptOutOfRange : after blankSubject (therapyDated (ymd 2020 2 11)) ≡ blankSubject
-  pub next : after printedOpened printedVisit43 ≡ printedVisited
+  pub next : after printedOpened printedVisit43 ≡ printedAfterVisit43
   -- reading meets 12 only
   pub readOutOfRange : readingOf blankSubject ≡ refused 12
 

@@ -35,8 +35,8 @@ abbrev pub onDay : ℕ → MaybeDay
 onDay n = M.On (day n)
 
 -- a visit as judged
-abbrev pub seen : ℕ → Word → Judged
-seen d answer = record { day = d; answer = answer }
+abbrev pub judgedOn : ℕ → Word → Judged
+judgedOn d answer = record { day = d; answer = answer }
 
 -- progression, v and the last evaluable visit
 abbrev pub events : MaybeDay → ℕ → MaybeDay → EventDays
@@ -73,8 +73,8 @@ printedWith = subjectWith (ymd 2020 1 1) true (disease true 2 60)
 abbrev pub printedOpened : Subject
 printedOpened = printedWith 60 1 false M.Absent noEvents noCounts
 
-abbrev pub printedVisited : Subject
-printedVisited = printedWith 36 43 false M.Absent (events M.Absent 43 (onDay 43)) (counts (onDay 43) M.Absent B.SD)
+abbrev pub printedAfterVisit43 : Subject
+printedAfterVisit43 = printedWith 36 43 false M.Absent (events M.Absent 43 (onDay 43)) (counts (onDay 43) M.Absent B.SD)
 
 -- after a baseline, by randomisation date, target count, sum and nadir
 abbrev pub afterBaseline : Date → ℕ → ℕ → ℕ → Subject
@@ -111,11 +111,11 @@ pub record RangeAtTheEdges : Type 0 where
 
 -- SD 43, NE 85, PD 127, SD 169 or PD 169: v moves with each visit before the progression, which is the first PD, the last evaluable visit with SD
 pub record EventsAfter : Type 0 where
-  pub sd43 : eventAfter noEvents (seen 43 SD) ≡ events M.Absent 43 (onDay 43)
-  pub ne85 : eventAfter (events M.Absent 43 (onDay 43)) (seen 85 NE) ≡ events M.Absent 85 (onDay 43)
-  pub pd127 : eventAfter (events M.Absent 85 (onDay 43)) (seen 127 PD) ≡ events (onDay 127) 85 (onDay 43)
-  pub sd169 : eventAfter (events (onDay 127) 85 (onDay 43)) (seen 169 SD) ≡ events (onDay 127) 85 (onDay 43)
-  pub pd169 : eventAfter (events (onDay 127) 85 (onDay 43)) (seen 169 PD) ≡ events (onDay 127) 85 (onDay 43)
+  pub sd43 : eventAfter noEvents (judgedOn 43 SD) ≡ events M.Absent 43 (onDay 43)
+  pub ne85 : eventAfter (events M.Absent 43 (onDay 43)) (judgedOn 85 NE) ≡ events M.Absent 85 (onDay 43)
+  pub pd127 : eventAfter (events M.Absent 85 (onDay 43)) (judgedOn 127 PD) ≡ events (onDay 127) 85 (onDay 43)
+  pub sd169 : eventAfter (events (onDay 127) 85 (onDay 43)) (judgedOn 169 SD) ≡ events (onDay 127) 85 (onDay 43)
+  pub pd169 : eventAfter (events (onDay 127) 85 (onDay 43)) (judgedOn 169 PD) ≡ events (onDay 127) 85 (onDay 43)
 
 -- behind a first CR on day 43
 abbrev pub afterCR : CountingVisits
@@ -123,26 +123,26 @@ afterCR = counts (onDay 43) (onDay 43) B.SD
 
 -- one counting visit more: 28 days or more apart, with only CR or NE between two CR visits; SD from day 36 on
 pub record CountsAfter : Type 0 where
-  pub cr43 : countingAfter noCounts (seen 43 CR) ≡ afterCR
-  pub pr35 : countingAfter noCounts (seen 35 PR) ≡ counts (onDay 35) M.Absent B.NE
-  pub sd35 : countingAfter noCounts (seen 35 SD) ≡ noCounts
-  pub sd36 : countingAfter noCounts (seen 36 SD) ≡ counts M.Absent M.Absent B.SD
-  pub pd43 : countingAfter noCounts (seen 43 PD) ≡ counts M.Absent M.Absent B.PD
-  pub cr70 : countingAfter afterCR (seen 70 CR) ≡ afterCR
-  pub cr71 : countingAfter afterCR (seen 71 CR) ≡ counts (onDay 43) (onDay 43) B.CR
-  pub pr71 : countingAfter afterCR (seen 71 PR) ≡ counts (onDay 43) M.Absent B.PR
-  pub ne71 : countingAfter afterCR (seen 71 NE) ≡ afterCR
-  pub sd71 : countingAfter afterCR (seen 71 SD) ≡ counts (onDay 43) M.Absent B.SD
-  pub pd71 : countingAfter afterCR (seen 71 PD) ≡ counts (onDay 43) M.Absent B.SD
+  pub cr43 : countingAfter noCounts (judgedOn 43 CR) ≡ afterCR
+  pub pr35 : countingAfter noCounts (judgedOn 35 PR) ≡ counts (onDay 35) M.Absent B.NE
+  pub sd35 : countingAfter noCounts (judgedOn 35 SD) ≡ noCounts
+  pub sd36 : countingAfter noCounts (judgedOn 36 SD) ≡ counts M.Absent M.Absent B.SD
+  pub pd43 : countingAfter noCounts (judgedOn 43 PD) ≡ counts M.Absent M.Absent B.PD
+  pub cr70 : countingAfter afterCR (judgedOn 70 CR) ≡ afterCR
+  pub cr71 : countingAfter afterCR (judgedOn 71 CR) ≡ counts (onDay 43) (onDay 43) B.CR
+  pub pr71 : countingAfter afterCR (judgedOn 71 PR) ≡ counts (onDay 43) M.Absent B.PR
+  pub ne71 : countingAfter afterCR (judgedOn 71 NE) ≡ afterCR
+  pub sd71 : countingAfter afterCR (judgedOn 71 SD) ≡ counts (onDay 43) M.Absent B.SD
+  pub pd71 : countingAfter afterCR (judgedOn 71 PD) ≡ counts (onDay 43) M.Absent B.SD
   -- behind a PR of day 43, a CR of day 71 starts a run of its own
-  pub crAfterPR : countingAfter (counts (onDay 43) M.Absent B.SD) (seen 71 CR)
+  pub crAfterPR : countingAfter (counts (onDay 43) M.Absent B.SD) (judgedOn 71 CR)
       ≡ counts (onDay 43) (onDay 71) B.PR
   -- an NE leaves everything as it is: behind PR 43; PR 43 and CR 71; CR 43 and CR 71; PD 43
-  pub neAfterPR : countingAfter (counts (onDay 43) M.Absent B.SD) (seen 99 NE) ≡ counts (onDay 43) M.Absent B.SD
-  pub neAfterPRAndCR : countingAfter (counts (onDay 43) (onDay 71) B.PR) (seen 99 NE)
+  pub neAfterPR : countingAfter (counts (onDay 43) M.Absent B.SD) (judgedOn 99 NE) ≡ counts (onDay 43) M.Absent B.SD
+  pub neAfterPRAndCR : countingAfter (counts (onDay 43) (onDay 71) B.PR) (judgedOn 99 NE)
       ≡ counts (onDay 43) (onDay 71) B.PR
-  pub neAfterTwoCR : countingAfter (counts (onDay 43) (onDay 43) B.CR) (seen 99 NE) ≡ counts (onDay 43) (onDay 43) B.CR
-  pub neAfterPD : countingAfter (counts M.Absent M.Absent B.PD) (seen 99 NE) ≡ counts M.Absent M.Absent B.PD
+  pub neAfterTwoCR : countingAfter (counts (onDay 43) (onDay 43) B.CR) (judgedOn 99 NE) ≡ counts (onDay 43) (onDay 43) B.CR
+  pub neAfterPD : countingAfter (counts M.Absent M.Absent B.PD) (judgedOn 99 NE) ≡ counts M.Absent M.Absent B.PD
 
 -- the order of document 01: CR, PR, SD, PD, NE; the better of each with each, rows and columns in this order
 abbrev pub responses : List BestResponse
@@ -169,38 +169,38 @@ countsOf js = countingOf (reverse js)
 -- the first CR since which every visit was CR or NE
 pub record StartsOfCR : Type 0 where
   pub noVisit : startOf [] ≡ none
-  pub crCR : startOf (seen 43 CR ∷ seen 71 CR ∷ []) ≡ on 43
-  pub crNE : startOf (seen 43 CR ∷ seen 71 NE ∷ []) ≡ on 43
-  pub crNECR : startOf (seen 43 CR ∷ seen 71 NE ∷ seen 99 CR ∷ []) ≡ on 43
-  pub neCR : startOf (seen 43 NE ∷ seen 71 CR ∷ []) ≡ on 71
-  pub prCR : startOf (seen 43 PR ∷ seen 71 CR ∷ []) ≡ on 71
+  pub crCR : startOf (judgedOn 43 CR ∷ judgedOn 71 CR ∷ []) ≡ on 43
+  pub crNE : startOf (judgedOn 43 CR ∷ judgedOn 71 NE ∷ []) ≡ on 43
+  pub crNECR : startOf (judgedOn 43 CR ∷ judgedOn 71 NE ∷ judgedOn 99 CR ∷ []) ≡ on 43
+  pub neCR : startOf (judgedOn 43 NE ∷ judgedOn 71 CR ∷ []) ≡ on 71
+  pub prCR : startOf (judgedOn 43 PR ∷ judgedOn 71 CR ∷ []) ≡ on 71
   -- any other answer ends the run, and the next CR starts one
-  pub ended : map (λ (w : Word). startOf (seen 43 CR ∷ seen 71 w ∷ [])) (PR ∷ SD ∷ PD ∷ []) ≡ none ∷ none ∷ none ∷ []
-  pub crPRCR : startOf (seen 43 CR ∷ seen 71 PR ∷ seen 99 CR ∷ []) ≡ on 99
-  pub endedBeforeNE : startOf (seen 43 CR ∷ seen 71 SD ∷ seen 99 NE ∷ []) ≡ none
+  pub ended : map (λ (w : Word). startOf (judgedOn 43 CR ∷ judgedOn 71 w ∷ [])) (PR ∷ SD ∷ PD ∷ []) ≡ none ∷ none ∷ none ∷ []
+  pub crPRCR : startOf (judgedOn 43 CR ∷ judgedOn 71 PR ∷ judgedOn 99 CR ∷ []) ≡ on 99
+  pub endedBeforeNE : startOf (judgedOn 43 CR ∷ judgedOn 71 SD ∷ judgedOn 99 NE ∷ []) ≡ none
 
 -- progression is the first PD; v is the last visit recorded before it, evaluable or not, or day 1; and the last evaluable visit before it
 pub record EventsOfVisits : Type 0 where
   pub noVisit : eventsOf [] ≡ noEvents
-  pub ne43 : eventsOf (seen 43 NE ∷ []) ≡ events M.Absent 43 M.Absent
-  pub sdNE : eventsOf (seen 43 SD ∷ seen 85 NE ∷ []) ≡ events M.Absent 85 (onDay 43)
-  pub pd43 : eventsOf (seen 43 PD ∷ []) ≡ events (onDay 43) 1 M.Absent
-  pub nePD : eventsOf (seen 43 NE ∷ seen 85 PD ∷ []) ≡ events (onDay 85) 43 M.Absent
-  pub sdNEPD : eventsOf (seen 43 SD ∷ seen 85 NE ∷ seen 127 PD ∷ []) ≡ events (onDay 127) 85 (onDay 43)
+  pub ne43 : eventsOf (judgedOn 43 NE ∷ []) ≡ events M.Absent 43 M.Absent
+  pub sdNE : eventsOf (judgedOn 43 SD ∷ judgedOn 85 NE ∷ []) ≡ events M.Absent 85 (onDay 43)
+  pub pd43 : eventsOf (judgedOn 43 PD ∷ []) ≡ events (onDay 43) 1 M.Absent
+  pub nePD : eventsOf (judgedOn 43 NE ∷ judgedOn 85 PD ∷ []) ≡ events (onDay 85) 43 M.Absent
+  pub sdNEPD : eventsOf (judgedOn 43 SD ∷ judgedOn 85 NE ∷ judgedOn 127 PD ∷ []) ≡ events (onDay 127) 85 (onDay 43)
   -- a visit behind the progression moves none of them
-  pub sdLater : eventsOf (seen 43 SD ∷ seen 85 NE ∷ seen 127 PD ∷ seen 169 SD ∷ []) ≡ events (onDay 127) 85 (onDay 43)
-  pub pdLater : eventsOf (seen 43 SD ∷ seen 85 NE ∷ seen 127 PD ∷ seen 169 PD ∷ []) ≡ events (onDay 127) 85 (onDay 43)
+  pub sdLater : eventsOf (judgedOn 43 SD ∷ judgedOn 85 NE ∷ judgedOn 127 PD ∷ judgedOn 169 SD ∷ []) ≡ events (onDay 127) 85 (onDay 43)
+  pub pdLater : eventsOf (judgedOn 43 SD ∷ judgedOn 85 NE ∷ judgedOn 127 PD ∷ judgedOn 169 PD ∷ []) ≡ events (onDay 127) 85 (onDay 43)
 
 -- the first counting CR or PR, the start of the last run of CR, and the best response that the counting visits show
 pub record CountsOfVisits : Type 0 where
   pub noVisit : countsOf [] ≡ noCounts
-  pub crNECR : countsOf (seen 43 CR ∷ seen 71 NE ∷ seen 99 CR ∷ []) ≡ counts (onDay 43) (onDay 43) B.CR
-  pub crPRCR : countsOf (seen 43 CR ∷ seen 71 PR ∷ seen 99 CR ∷ []) ≡ counts (onDay 43) (onDay 99) B.PR
-  pub prCRCR : countsOf (seen 43 PR ∷ seen 71 CR ∷ seen 99 CR ∷ []) ≡ counts (onDay 43) (onDay 71) B.CR
-  pub sdPR : countsOf (seen 43 SD ∷ seen 71 PR ∷ []) ≡ counts (onDay 71) M.Absent B.SD
-  pub sd35 : countsOf (seen 35 SD ∷ []) ≡ noCounts
-  pub crPD : countsOf (seen 43 CR ∷ seen 71 PD ∷ []) ≡ counts (onDay 43) M.Absent B.SD
-  pub pd43 : countsOf (seen 43 PD ∷ []) ≡ counts M.Absent M.Absent B.PD
+  pub crNECR : countsOf (judgedOn 43 CR ∷ judgedOn 71 NE ∷ judgedOn 99 CR ∷ []) ≡ counts (onDay 43) (onDay 43) B.CR
+  pub crPRCR : countsOf (judgedOn 43 CR ∷ judgedOn 71 PR ∷ judgedOn 99 CR ∷ []) ≡ counts (onDay 43) (onDay 99) B.PR
+  pub prCRCR : countsOf (judgedOn 43 PR ∷ judgedOn 71 CR ∷ judgedOn 99 CR ∷ []) ≡ counts (onDay 43) (onDay 71) B.CR
+  pub sdPR : countsOf (judgedOn 43 SD ∷ judgedOn 71 PR ∷ []) ≡ counts (onDay 71) M.Absent B.SD
+  pub sd35 : countsOf (judgedOn 35 SD ∷ []) ≡ noCounts
+  pub crPD : countsOf (judgedOn 43 CR ∷ judgedOn 71 PD ∷ []) ≡ counts (onDay 43) M.Absent B.SD
+  pub pd43 : countsOf (judgedOn 43 PD ∷ []) ≡ counts M.Absent M.Absent B.PD
 
 -- what is held after a baseline of 2020-01-01 and the records behind it, in the order recorded
 abbrev pub heldAfter : Baseline → List StudyRecord → Subject
@@ -217,7 +217,7 @@ missingWith = subjectWith (ymd 2020 1 1) false (record { assessed = false; count
 pub record HeldOfRecords : Type 0 where
   -- the printed example: after its baseline, its first visit, and its last
   pub opened : heldAfter withNode [] ≡ printedOpened
-  pub afterVisit43 : heldAfter withNode (visit43 ∷ []) ≡ printedVisited
+  pub afterVisit43 : heldAfter withNode (visit43 ∷ []) ≡ printedAfterVisit43
   pub progressed : heldAfter withNode (visit43 ∷ visit85 ∷ visit127 ∷ [])
       ≡ printedWith 9 127 false M.Absent (events (onDay 127) 85 (onDay 85)) (counts (onDay 43) M.Absent B.PR)
   -- CR 43, NE 71, CR 99
