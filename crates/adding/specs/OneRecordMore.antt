@@ -29,7 +29,6 @@ use Rattle.subject.specs.OneVisitMore.{eventAfter, countingAfter}
 abbrev pub heldDay : Date → Date → StudyDay
 heldDay randomisation d = at (studyDay randomisation d)
 
--- the overall answer at a visit
 unfoldable pub overallHeld : Enrolment → FollowUp → VisitEntry → List Bool → List ℕ → Word
 overallHeld e f v measured sizes = overallAnswer (e .disease) (f .earlier) (visitOf v measured sizes)
 
@@ -40,7 +39,6 @@ judgedHeld e f day v measured sizes = record { day = day .0; answer = overallHel
 abbrev pub judgedAs : StudyDay → VisitAnswer → Judged
 judgedAs day a = record { day = day .0; answer = overallWord (a .overall) }
 
--- no further visit counts
 abbrev pub countingClosedHeld : FollowUp → Bool
 countingClosedHeld f = either (f .therapyrecorded) (isRecorded (dayValue (f .event .progression)))
 

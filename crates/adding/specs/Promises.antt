@@ -51,7 +51,6 @@ pub record Answered (s : Subject) (r : Record) (n : ℕ) (a : AddAnswer) (t : Su
 unfoldable pub refusalOfAddingHeld : Subject → Record → ℕ
 refusalOfAddingHeld s r = first (12 when not (inRange s) ∷ refusalsOfRecord r ++ refusalsOfRecordHeld s r)
 
--- adding a record
 abbrev pub Adds : Subject → Record → AddAnswer → Subject → Type 0
 Adds s r a t = Answered s r (refusalOfAddingHeld s r) a t
 
@@ -59,7 +58,6 @@ Adds s r a t = Answered s r (refusalOfAddingHeld s r) a t
 unfoldable pub refusalOfAddingBytesHeld : Subject → List ℕ → ℕ
 refusalOfAddingBytesHeld s bytes = first (12 when not (inRange s) ∷ refusalsOfBytes bytes ++ refusalsOfRecordHeld s (recordOfBytes bytes))
 
--- adding a record from its bytes
 pub record AddsBytes (s : Subject) (bytes : List ℕ) (a : AddAnswer) (t : Subject) : Type 0 where
   pub added : Answered s (recordOfBytes bytes) (refusalOfAddingBytesHeld s bytes) a t
   -- the type `u8` gives it

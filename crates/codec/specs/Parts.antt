@@ -32,7 +32,6 @@ abbrev pub joined : List (List ℕ) → List ℕ
 joined [] = []
 joined (part ∷ ps) = part ++ joined ps
 
--- each part has 11 bytes
 abbrev pub AllEleven : List (List ℕ) → Type 0
 AllEleven [] = Unit {0}
 AllEleven (part ∷ ps) = (length part ≡ recordLength) × AllEleven ps

@@ -47,7 +47,6 @@ sizesFrom f = getD f 1 0 ∷ getD f 3 0 ∷ getD f 5 0 ∷ getD f 7 0 ∷ getD f
 unfoldable pub statusFrom : ℕ → Status
 statusFrom n = pick (eqb n 1) CR (pick (eqb n 2) NN (pick (eqb n 3) PD (pick (eqb n 4) NE NA)))
 
--- a record with no target set
 abbrev pub withoutTargets : Entry → Record
 withoutTargets e = record { entry = e; sizes = 0 ∷ 0 ∷ 0 ∷ 0 ∷ 0 ∷ []; marks = false ∷ false ∷ false ∷ false ∷ false ∷ [] }
 
@@ -122,7 +121,6 @@ refusalsOfRecordNumber n = 2 when not (isKind (kindIn n)) ∷ refusalsOfRaw (raw
 unfoldable pub refusalsOfBytes : List ℕ → List Refusal
 refusalsOfBytes s = 1 when not (eqb (length s) recordLength) ∷ refusalsOfRecordNumber (bytesNumber s)
 
--- the first that meets, 0 for none
 abbrev pub refusalOfBytes : List ℕ → ℕ
 refusalOfBytes s = first (refusalsOfBytes s)
 
@@ -130,7 +128,6 @@ refusalOfBytes s = first (refusalsOfBytes s)
 abbrev pub blankRecord : Record
 blankRecord = withoutTargets (Therapy (record { year = 0; month = 0; day = 0 }))
 
--- the promise of judging what was read
 pub record JudgesRead (w : Raw) (x : ReadResult) : Type 0 where
   pub answer : readNumber (x .answer) ≡ first (refusalsOfRaw w)
   pub found : x .found ≡ pick (eqb (first (refusalsOfRaw w)) 0) (w .read) blankRecord
@@ -139,14 +136,12 @@ pub record JudgesRead (w : Raw) (x : ReadResult) : Type 0 where
 unfoldable pub recordOfBytes : List ℕ → Record
 recordOfBytes s = pick (eqb (refusalOfBytes s) 0) (rawIn (kindIn (bytesNumber s)) (bytesNumber s) .read) blankRecord
 
--- the promise of reading
 pub record Reads (s : List ℕ) (x : ReadResult) : Type 0 where
   pub answer : readNumber (x .answer) ≡ refusalOfBytes s
   pub found : x .found ≡ recordOfBytes s
   -- the type `u8` gives it
   pub octets : AreBytes s
 
--- all zero
 abbrev pub blankVisit : VisitFields
 blankVisit = record {
   isvisit = false;
@@ -161,7 +156,6 @@ blankVisit = record {
 unfoldable pub visitFieldsOf : List ℕ → VisitFields
 visitFieldsOf s = pick (eqb (length s) recordLength) (visitFieldsIn (bytesNumber s)) blankVisit
 
--- the promise of reading them
 pub record ReadsVisit (s : List ℕ) (x : VisitFields) : Type 0 where
   pub fields : x ≡ visitFieldsOf s
   -- the type `u8` gives it

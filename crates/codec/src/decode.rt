@@ -122,7 +122,6 @@ fn baseline_in(s: &[u8]) -> Raw
     }
 }
 
-// What 11 bytes have as a visit.
 pub(crate) fn visit_fields_in(s: &[u8]) -> VisitFields
     requires { ⌜ length (now s) ≡ recordLength ⌝ }
     ensures { λ r. ⌜ r ≡ visitFieldsIn (bytesNumber (now (s .entry))) ⌝ }
@@ -170,8 +169,7 @@ fn visit_in(s: &[u8]) -> Raw
     }
 }
 
-// Whether a bit behind the date is set.
-fn body_set(s: &[u8]) -> bool
+fn bit_set_behind_date(s: &[u8]) -> bool
     requires { ⌜ length (now s) ≡ recordLength ⌝ }
     ensures { λ r. ⌜ r ≡ ltb 0 (bytesNumber (now (s .entry)) % 2 ^ 64) ⌝ }
 {
@@ -203,7 +201,7 @@ fn spare_in(s: &[u8], entry: Entry) -> Raw
     ensures { λ r. ⌜ r ≡ spareIn entry (bytesNumber (now (s .entry))) ⌝ }
 {
     let read = record_without_targets(entry);
-    let spare = body_set(s);
+    let spare = bit_set_behind_date(s);
     Raw {
         read: read,
         badstatus: false,

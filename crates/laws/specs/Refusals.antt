@@ -22,7 +22,6 @@ abbrev pub first : List Refusal → ℕ
 first [] = 0
 first (r ∷ rs) = pick (r .meets) (r .number) (first rs)
 
--- none meets
 abbrev pub NoneMeets : List Refusal → Type 0
 NoneMeets [] = Unit {0}
 NoneMeets (r ∷ rs) = (r .meets ≡ false) × NoneMeets rs

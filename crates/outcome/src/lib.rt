@@ -4,7 +4,7 @@ use outcome_rules::BestResponse;
 use outcome_rules::DurationAnswer;
 use outcome_rules::PfsResult;
 
-mod settled; // settled.rt: the marks
+mod settled; // settled.rt: the settled marks
 mod reading; // reading.rt: the outcome of a held subject
 
 pub use reading::read_outcome;

@@ -1,4 +1,4 @@
-// The marks.
+// The settled marks of the three parts.
 use dates::StudyDay;
 use outcome_rules::BestResponse;
 use outcome_rules::DurationAnswer;

@@ -53,7 +53,6 @@ notBaseline e = not (eqb (kindNumber e) 1)
 unfoldable pub refusalsOfOpening : Record → List Refusal
 refusalsOfOpening r = refusalsOfRecord r ++ 7 when notBaseline (r .entry) ∷ []
 
--- the first that meets, 0 for none
 abbrev pub refusalOfOpening : Record → ℕ
 refusalOfOpening r = first (refusalsOfOpening r)
 
@@ -62,7 +61,6 @@ unfoldable pub refusalsOfAdding : List Record → Record → List Refusal
 refusalsOfAdding [] r = refusalsOfRecord r ++ 7 when true ∷ []
 refusalsOfAdding (b ∷ rs) r = refusalsOfRecord r ++ refusalsOfStudyRecordInOrder (onStudyDays (b ∷ rs)) (onStudyDay (dateOf (b .entry)) r)
 
--- the first that meets, 0 for none
 abbrev pub refusalOfAdding : List Record → Record → ℕ
 refusalOfAdding rs r = first (refusalsOfAdding rs r)
 

@@ -26,7 +26,6 @@ pub record Judged : Type 0 where
   pub day : ℕ
   pub answer : Word
 
--- of the declared struct
 abbrev pub judgedValues : JudgedVisit → Judged
 judgedValues j = record { day = j .day .0; answer = overallWord (j .answer) }
 

@@ -47,7 +47,6 @@ entryOfBaseline b = record { date = ymd 0 0 0; assessed = b .assessed; nontarget
 abbrev pub entryOfVisit : Visit → VisitEntry
 entryOfVisit v = record { date = ymd 0 0 0; status = v .status; newlesion = v .newLesion }
 
--- what a baseline leaves for judging visits
 abbrev pub disease : Baseline → BaselineDisease
 disease b = diseaseOf (entryOfBaseline b) (b .nodes) (b .sizes)
 

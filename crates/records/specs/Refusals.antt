@@ -62,11 +62,9 @@ notZeroUnmeasured measured size = both (not measured) (ltb 0 size)
 abbrev pub targetAt : (ℕ → Bool → ℕ → Bool) → List Bool → List ℕ → ℕ → Bool
 targetAt f marks sizes i = f i (getD marks i false) (getD sizes i 0)
 
--- some target of the five
 abbrev pub someTarget : (ℕ → Bool → ℕ → Bool) → List Bool → List ℕ → Bool
 someTarget f marks sizes = some (targetAt f marks sizes) mostTargets
 
--- neither a target nor non-target disease
 unfoldable pub withoutDisease : BaselineEntry → Bool
 withoutDisease b = both (eqb (b .count) 0) (not (b .nontarget))
 
@@ -108,6 +106,5 @@ refusalsOfRead r badstatus spare = refusalsOfFields (not (dateExists (dateOf (r 
 abbrev pub refusalsOfRecord : Record → List Refusal
 refusalsOfRecord r = refusalsOfRead r false false
 
--- the first that meets, 0 for none
 abbrev pub refusalOfRecord : Record → ℕ
 refusalOfRecord r = first (refusalsOfRecord r)

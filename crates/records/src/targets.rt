@@ -15,7 +15,6 @@ fn least_size(node: bool) -> u16
     if node { LEAST_NODE } else { LEAST_OTHER }
 }
 
-// Within the count, a size outside the limits.
 fn size_outside_limits(count: u8, i: u8, node: bool, size: u16) -> bool
     ensures { λ r. ⌜ r ≡ sizeOutsideLimits count i node size ⌝ }
 {

@@ -22,6 +22,5 @@ sumOfDiameters measured sizes = sumWhere (λ (i : ℕ). getD measured i false) s
 unfoldable pub baselineSum : ℕ → List ℕ → ℕ
 baselineSum count sizes = sumWhere (λ (i : ℕ). ltb i count) sizes mostTargets
 
--- all measured
 unfoldable pub allMeasured : ℕ → List Bool → Bool
 allMeasured count measured = all (λ (i : ℕ). either (leb count i) (getD measured i false)) mostTargets

@@ -72,7 +72,6 @@ firstResponseAfter first j = pick (isResponse (j .answer)) (firstRecorded first 
 abbrev pub crStartAfter : MaybeDay → Judged → MaybeDay
 crStartAfter start j = pick (isCR (j .answer)) (firstRecorded start (at (j .day))) (pick (allowedBetweenCR (j .answer)) start M.Absent)
 
--- one counting visit more
 unfoldable pub countingAfter : CountingVisits → Judged → CountingVisits
 countingAfter c j =
     record {

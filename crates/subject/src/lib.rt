@@ -36,7 +36,6 @@ pub struct CountingVisits {
     pub firstresponse: MaybeDay,
     // The first CR since which every one was CR or NE.
     pub crstart: MaybeDay,
-    // The best response that they show so far.
     pub best: BestResponse,
 }
 

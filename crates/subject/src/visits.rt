@@ -17,7 +17,6 @@ ghost use Rattle.subject.specs.OneVisitMore.{evaluableOn, eventAfter, be
 // The day from which SD is a best response.
 const STABLE_DISEASE_FROM: u32 = 36;
 
-// A visit before the event that is evaluable.
 fn evaluable_on(visit: StudyDay) -> EventDays
     ensures { λ r. ⌜ r ≡ evaluableOn visit ⌝ }
 {

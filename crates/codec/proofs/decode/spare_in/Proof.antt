@@ -12,4 +12,4 @@ spare-in-spec =
     (tie.spec
     (λ c κs. search needs)
     (λ c κs. search needs)
-    (λ c. unfold spareIn in rw (c .before .record-without-targets .ensures, c .body-set .ensures) (simp div-one)))
+    (λ c. unfold spareIn in rw (c .before .record-without-targets .ensures, c .bit-set-behind-date .ensures) (simp div-one)))

@@ -1,4 +1,4 @@
--- `codec::decode::body_set` meets its contract: the 64 bits behind the date are four fields of 16.
+-- `codec::decode::bit_set_behind_date` meets its contract: the 64 bits behind the date are four fields of 16.
 -- Assumes nothing.
 use mathlib.Core.Path.{_≡_, refl, ap}
 use mathlib.Core.List.{[], _∷_}
@@ -8,8 +8,8 @@ use lib.Dec.{ltb}
 use borrow.Author.Needs.{needs}
 use borrow.Author.Tests.{lt-ltb}
 use Rattle.laws.proofs.PackUnpack.{pack-unpack-mod}
-use Rattle.codec.proofs.decode.body_set.Statement.{statement}
-use Rattle.codec.proofs.decode.body_set.Tie as tie
+use Rattle.codec.proofs.decode.bit_set_behind_date.Statement.{statement}
+use Rattle.codec.proofs.decode.bit_set_behind_date.Tie as tie
 
 both-set : (a b : ℕ) → 0 < a → 0 < b → ltb 0 a ≡ ltb 0 b
 both-set a b h g = rw (lt-ltb 0 a h, lt-ltb 0 b g)
@@ -33,8 +33,8 @@ module _ (n : ℕ) where
   fourth a b d e ae be de ee ha hb hd =
       let q : e ≡ n % 2 ^ 64 = omega (arith, four a b d e ae be de ee) in ap (λ (k : ℕ). ltb 0 k) q
 
-pub body-set-spec : {M : Type 1} → statement M
-body-set-spec =
+pub bit-set-behind-date-spec : {M : Type 1} → statement M
+bit-set-behind-date-spec =
     tie.close
     (tie.spec
     (λ c κs. search needs)
