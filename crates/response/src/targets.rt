@@ -9,7 +9,7 @@ ghost use Rattle.response_rules.specs.Words.{targetWord};
 ghost use Rattle.response_rules.specs.Inputs.{Visit};
 ghost use Rattle.response_rules.specs.TargetAnswer.{disappeared, allDisappeared, progressionFromNadir, partialResponse, targetAnswer};
 
-// In millimetres; RECIST 1.1 calls a node below 10 mm normal.
+// In millimetres; document 02 calls a node below 10 mm normal.
 const NORMAL_SHORT_AXIS: u16 = 9;
 
 // Progression: millimetres above the nadir, and fifths of it.

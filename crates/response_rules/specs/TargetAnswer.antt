@@ -13,7 +13,7 @@ use Rattle.response_rules.specs.SumOfDiameters.{sumOfDiameters, allMeasu
 use Rattle.response_rules.specs.declared.BaselineDisease.{BaselineDisease}
 use Rattle.response_rules.specs.declared.Earlier.{Earlier}
 
--- the short axis, in millimetres, up to which a node is normal, as RECIST 1.1 has it
+-- the short axis, in millimetres, up to which a node is normal, a term of document 02
 abbrev pub normalShortAxis : ℕ
 normalShortAxis = 9
 
@@ -28,7 +28,7 @@ progressionFifths = 6
 abbrev pub partialResponseTenths : ℕ
 partialResponseTenths = 7
 
--- disappeared, as RECIST 1.1 has it: a node is at most 9, any other target 0
+-- disappeared, a term of our own for both halves of CR: a node is at most 9, any other target 0
 abbrev pub disappeared : Bool → ℕ → Bool
 disappeared node size = pick node (leb size normalShortAxis) (eqb size 0)
 
