@@ -24,6 +24,7 @@ use Rattle.records.specs.declared.CheckAnswer.{CheckAnswer}
 use Rattle.records.specs.Entries.{dateOf}
 use Rattle.records.specs.Refusals.{checkNumber, refusalsOfFields, ChecksVisit, refusalsOfRead, refusalOfRecord}
 use Rattle.records.proofs.NoOwnRefusal.{after-own}
+use Rattle.records.specs.Forms.{newForm, newUnit}
 use Rattle.codec.specs.declared.VisitFields.{VisitFields}
 use Rattle.codec.specs.Reading.{rawVisit, refusalsOfRaw, refusalsOfBytes, refusalOfBytes, recordOfBytes, visitFieldsOf, ReadsVisit}
 use Rattle.codec.proofs.NoRefusalOfBytes.{bytes-numbered, after-reading}
@@ -66,7 +67,7 @@ counted-refusal d randomisation e = rw e (go (dateExists d) (leb (dayNumber rand
 
 module _ (counted : StudyDayAnswer) (v : VisitFields) (x : Bool) (xq : x ≡ not (eqb (studyDayValues counted .refusal) 3)) where
   abbrev own : ℕ
-  own = first (refusalsOfFields (eqb (studyDayValues counted .refusal) 3) (E.Visit (v .entry)) (v .measured) (v .sizes) (v .badstatus) (v .spare))
+  own = first (refusalsOfFields newUnit (eqb (studyDayValues counted .refusal) 3) (E.Visit (v .entry)) (v .measured) (v .sizes) (v .badstatus) (v .spare))
 
   pub own-no-date : not x ≡ true → 3 ≡ own
   own-no-date h = let q = not-false (eqb (studyDayValues counted .refusal) 3) (sym xq ∙ not-true x h) in rw q
@@ -77,7 +78,7 @@ module _ (counted : StudyDayAnswer) (v : VisitFields) (x : Bool) (xq : x ≡ not
 
 -- 3, then 4 and 5
 by-date : (v : VisitFields) →
-    refusalsOfRaw (rawVisit v) ≡ refusalsOfFields (not (dateExists (v .entry .date))) (E.Visit (v .entry)) (v .measured) (v .sizes) (v .badstatus) (v .spare)
+    refusalsOfRaw newUnit (rawVisit v) ≡ refusalsOfFields newUnit (not (dateExists (v .entry .date))) (E.Visit (v .entry)) (v .measured) (v .sizes) (v .badstatus) (v .spare)
 unfolding refusalsOfRead
 by-date v = refl
 
@@ -91,15 +92,15 @@ module _ (randomisation : Date) (bytes : List ℕ) (v : VisitFields) (counted : 
   held : day ≡ heldDay randomisation (v .entry .date)
   held = ap (λ (n : ℕ). record { 0 = n }) (dq ∙ ap (λ (c : Counted). c .day) cq)
 
-  on-the-day : refusalOfBytes bytes ≡ 0 → day ≡ heldDay randomisation (dateOf (recordOfBytes bytes .entry))
+  on-the-day : refusalOfBytes newForm bytes ≡ 0 → day ≡ heldDay randomisation (dateOf (recordOfBytes newForm bytes .entry))
   on-the-day e = held ∙ ap (heldDay randomisation) (date-read ∙ sym (found-date bytes (w .octets) e))
 
   pub visit-dated : (own : AddAnswer) → v .isvisit ≡ true →
-      addNumber own ≡ first (refusalsOfFields (eqb (studyDayValues counted .refusal) 3) (E.Visit (v .entry)) (v .measured) (v .sizes) (v .badstatus) (v .spare)) →
+      addNumber own ≡ first (refusalsOfFields newUnit (eqb (studyDayValues counted .refusal) 3) (E.Visit (v .entry)) (v .measured) (v .sizes) (v .badstatus) (v .spare)) →
       (x .day ≡ day) × (x .own ≡ own) × (x .found ≡ rawVisit v .read) → DatedFrom randomisation bytes x
   visit-dated own h oq q =
       let there = is-visit bytes (ap (λ f. f .isvisit) (sym (w .fields)) ∙ h) in
-      let refusal : refusalOfBytes bytes ≡ first (refusalsOfRaw (rawVisit v)) = there .refusal ∙ ap (λ f. first (refusalsOfRaw (rawVisit f))) (sym (w .fields)) in
+      let refusal : refusalOfBytes newForm bytes ≡ first (refusalsOfRaw newUnit (rawVisit v)) = there .refusal ∙ ap (λ f. first (refusalsOfRaw newUnit (rawVisit f))) (sym (w .fields)) in
       record {
         own = λ e. ap addNumber (q .1) ∙ oq ∙ rw (cq, counted-refusal (v .entry .date) randomisation e) (ap first (sym (by-date v))) ∙ sym refusal;
         day = λ e. q .0 ∙ on-the-day e;
@@ -107,12 +108,12 @@ module _ (randomisation : Date) (bytes : List ℕ) (v : VisitFields) (counted : 
         octets = w .octets;
       }
 
-  pub other-dated : (x .day ≡ day) × (addNumber (x .own) ≡ refusalOfBytes bytes) × (x .found ≡ recordOfBytes bytes) × AreBytes bytes →
+  pub other-dated : (x .day ≡ day) × (addNumber (x .own) ≡ refusalOfBytes newForm bytes) × (x .found ≡ recordOfBytes newForm bytes) × AreBytes bytes →
       DatedFrom randomisation bytes x
   other-dated q = record { own = λ e. q .1; day = λ e. q .0 ∙ on-the-day e; found = λ e. q .2; octets = w .octets }
 
 pub value-dated : (randomisation date : Date) (r : Record) (counted : StudyDayAnswer) (day : StudyDay) (own : AddAnswer) (c : CheckAnswer) →
-    date ≡ dateOf (r .entry) → studyDayValues counted ≡ studyDayOf date randomisation → day .0 ≡ studyDayValues counted .day → checkNumber c ≡ refusalOfRecord r →
+    date ≡ dateOf (r .entry) → studyDayValues counted ≡ studyDayOf date randomisation → day .0 ≡ studyDayValues counted .day → checkNumber c ≡ refusalOfRecord newUnit r →
     addNumber own ≡ checkNumber c → DatedAs randomisation r (record { day = day; own = own; found = r })
 value-dated randomisation date r counted day own c e cq dq rq oq =
     record {
@@ -171,7 +172,7 @@ module _ (s : Subject) (r : Record) (d : Dated) (x : Step) (y : AddResult) (insi
   value-added v =
       answered (refusalOfAddingHeld s r)
       ((λ i. refusalOfStepHeld (inside-is i) (v .own i) (first (refusalsOfEntryHeld (s .enrolment) (s .followup) (v .day i) (v .found i .entry) (v .found i .marks))))
-      ∙ twelve-first (inRange s) _ ∙ ap (pick (not (inRange s)) 12) (sym (after-own r (refusalsOfRecordHeld s r))))
+      ∙ twelve-first (inRange s) _ ∙ ap (pick (not (inRange s)) 12) (sym (after-own newUnit r (refusalsOfRecordHeld s r))))
       (λ z. (v .day, v .found))
 
 -- from bytes
@@ -180,24 +181,24 @@ module _ (s : Subject) (bytes : List ℕ) (d : Dated) (x : Step) (y : AddResult)
     (q : (y .answer ≡ x .answer) × (y .subject ≡ record { enrolment = s .enrolment; followup = x .followup }))
     (v : DatedFrom (s .enrolment .randomisation) bytes d) where
   abbrev r : Record
-  r = recordOfBytes bytes
+  r = recordOfBytes newForm bytes
 
   -- where no refusal meets the bytes, the record and its day are theirs
-  same : refusalOfBytes bytes ≡ 0 → (d .day ≡ studyDayHeld s r) × (d .found ≡ r)
+  same : refusalOfBytes newForm bytes ≡ 0 → (d .day ≡ studyDayHeld s r) × (d .found ≡ r)
   same e = (v .day e, v .found e)
 
   -- 8 to 11 of the record found, on its day
   abbrev behind : ℕ
   behind = first (refusalsOfEntryHeld (s .enrolment) (s .followup) (d .day) (d .found .entry) (d .found .marks))
 
-  own-then : (own : ℕ) → own ≡ refusalOfBytes bytes → pick (eqb own 0) behind own ≡ pick (eqb (refusalOfBytes bytes) 0) (first (refusalsOfRecordHeld s r)) (refusalOfBytes bytes)
-  own-then own e = rw e (go (eqb (refusalOfBytes bytes) 0) refl)
+  own-then : (own : ℕ) → own ≡ refusalOfBytes newForm bytes → pick (eqb own 0) behind own ≡ pick (eqb (refusalOfBytes newForm bytes) 0) (first (refusalsOfRecordHeld s r)) (refusalOfBytes newForm bytes)
+  own-then own e = rw e (go (eqb (refusalOfBytes newForm bytes) 0) refl)
     where
-      go : (b : Bool) → eqb (refusalOfBytes bytes) 0 ≡ b → pick b behind (refusalOfBytes bytes) ≡ pick b (first (refusalsOfRecordHeld s r)) (refusalOfBytes bytes)
-      go true z = let k = same (eqb-true (refusalOfBytes bytes) 0 z) in λ i. first (refusalsOfEntryHeld (s .enrolment) (s .followup) (k .0 i) (k .1 i .entry) (k .1 i .marks))
+      go : (b : Bool) → eqb (refusalOfBytes newForm bytes) 0 ≡ b → pick b behind (refusalOfBytes newForm bytes) ≡ pick b (first (refusalsOfRecordHeld s r)) (refusalOfBytes newForm bytes)
+      go true z = let k = same (eqb-true (refusalOfBytes newForm bytes) 0 z) in λ i. first (refusalsOfEntryHeld (s .enrolment) (s .followup) (k .0 i) (k .1 i .entry) (k .1 i .marks))
       go false z = refl
 
-  refusal-from : (b : Bool) → inside ≡ b → refusalOfStepHeld b (addNumber (d .own)) behind ≡ refusalOfStepHeld b (refusalOfBytes bytes) (first (refusalsOfRecordHeld s r))
+  refusal-from : (b : Bool) → inside ≡ b → refusalOfStepHeld b (addNumber (d .own)) behind ≡ refusalOfStepHeld b (refusalOfBytes newForm bytes) (first (refusalsOfRecordHeld s r))
   unfolding enrolmentInRange
   refusal-from false h = refl
   refusal-from true h =
@@ -208,17 +209,17 @@ module _ (s : Subject) (bytes : List ℕ) (d : Dated) (x : Step) (y : AddResult)
   unfolding refusalOfAddingBytesHeld inRange
   number =
       refusal-from inside refl
-      ∙ ap (λ (b : Bool). refusalOfStepHeld b (refusalOfBytes bytes) (first (refusalsOfRecordHeld s r))) iq
+      ∙ ap (λ (b : Bool). refusalOfStepHeld b (refusalOfBytes newForm bytes) (first (refusalsOfRecordHeld s r))) iq
       ∙ twelve-first (inRange s) _
-      ∙ ap (pick (not (inRange s)) 12) (sym (after-reading bytes (refusalsOfRecordHeld s r)))
+      ∙ ap (pick (not (inRange s)) 12) (sym (after-reading newForm bytes (refusalsOfRecordHeld s r)))
 
   -- no refusal from bytes, so none of the bytes
-  none-of-bytes : refusalOfAddingBytesHeld s bytes ≡ 0 → refusalOfBytes bytes ≡ 0
+  none-of-bytes : refusalOfAddingBytesHeld s bytes ≡ 0 → refusalOfBytes newForm bytes ≡ 0
   unfolding refusalOfAddingBytesHeld
   none-of-bytes z = go (inRange s) z
     where
-      go : (b : Bool) → first (12 when not b ∷ refusalsOfBytes bytes ++ refusalsOfRecordHeld s r) ≡ 0 → refusalOfBytes bytes ≡ 0
-      go true e = none-of-both (refusalsOfBytes bytes) (refusalsOfRecordHeld s r) (bytes-numbered bytes) .0 e .0
+      go : (b : Bool) → first (12 when not b ∷ refusalsOfBytes newForm bytes ++ refusalsOfRecordHeld s r) ≡ 0 → refusalOfBytes newForm bytes ≡ 0
+      go true e = none-of-both (refusalsOfBytes newForm bytes) (refusalsOfRecordHeld s r) (bytes-numbered newForm bytes) .0 e .0
       go false e = absurd (let w : ⊥ = omega arith in w)
 
   pub bytes-added : AddsBytes s bytes (y .answer) (y .subject)

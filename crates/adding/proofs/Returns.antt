@@ -121,7 +121,7 @@ refusal-as-tested e f day v marks fit a fq aq = aq ∙ rw fq
 no-responses : (a : AddAnswer) (n : ℕ) → addNumber a ≡ suc n → addResponses a ≡ []
 no-responses A.Done n q = refl
 no-responses (A.Judged v) n q = absurd (let w : ⊥ = omega arith in w)
-no-responses A.NotElevenBytes n q = refl
+no-responses A.WrongLength n q = refl
 no-responses A.NoSuchKind n q = refl
 no-responses A.SecondBaseline n q = refl
 no-responses A.AfterDeath n q = refl

@@ -6,7 +6,7 @@ use mathlib.Core.Bool.{true, false}
 use mathlib.Core.List.{List, [], _∷_, map}
 use Rattle.dates.specs.Laws.{ymd}
 use Rattle.records.specs.Examples.{visitDated, therapyDated, deathDated}
-use Rattle.codec.specs.Examples.{eleven, printedBytes, printedVisitBytes}
+use Rattle.codec.specs.Examples.{thirteen, printedBytes, printedVisitBytes}
 use Rattle.records.specs.declared.Record.{Record}
 use Rattle.laws.specs.Refusals.{first}
 use Rattle.records.specs.declared.OwnRefusal.the-variants as N
@@ -35,7 +35,7 @@ responses85 = record { day = day 85; target = T.CR; nontarget = S.NN; overall = 
 
 abbrev pub cases : List AddAnswer
 cases =
-    A.Done ∷ A.Judged responses85 ∷ A.NotElevenBytes ∷ A.NoSuchKind ∷ A.Refused N.NotZero ∷ A.SecondBaseline ∷ A.AfterDeath ∷ A.TooEarly ∷ A.Misfit
+    A.Done ∷ A.Judged responses85 ∷ A.WrongLength ∷ A.NoSuchKind ∷ A.Refused N.NotZero ∷ A.SecondBaseline ∷ A.AfterDeath ∷ A.TooEarly ∷ A.Misfit
     ∷ A.OutOfRange ∷ []
 
 pub record NumbersOfCases : Type 0 where
@@ -51,24 +51,24 @@ abbrev pub response43 : CountingVisits
 response43 = counts (onDay 43) M.Absent B.SD
 
 abbrev pub afterTherapy50 : Subject
-afterTherapy50 = printedWith 36 50 true M.Absent (events M.Absent 43 (onDay 43)) response43
+afterTherapy50 = printedWith 360 50 true M.Absent (events M.Absent 43 (onDay 43)) response43
 
 abbrev pub afterDeath50 : Subject
-afterDeath50 = printedWith 36 50 false (onDay 50) (events M.Absent 43 (onDay 43)) response43
+afterDeath50 = printedWith 360 50 false (onDay 50) (events M.Absent 43 (onDay 43)) response43
 
 abbrev pub progressed : Subject
-progressed = printedWith 36 43 false M.Absent (events (onDay 43) 1 M.Absent) (counts M.Absent M.Absent B.PD)
+progressed = printedWith 360 43 false M.Absent (events (onDay 43) 1 M.Absent) (counts M.Absent M.Absent B.PD)
 
 -- after a baseline without non-target disease, and after a missing one
 abbrev pub withoutNontarget : Subject
-withoutNontarget = subjectWith (ymd 2020 1 1) false (disease true 2 60) 60 1 false M.Absent noEvents noCounts
+withoutNontarget = subjectWith (ymd 2020 1 1) false (disease true 2 600) 600 1 false M.Absent noEvents noCounts
 
 abbrev pub baselineMissing : Subject
 baselineMissing = subjectWith (ymd 2020 1 1) false (disease false 0 0) 0 1 false M.Absent noEvents noCounts
 
--- 2020-03-25, which is day 85: (24, 12), NN
+-- 2020-03-25, which is day 85: 24.0 and 12.0 mm, NN
 abbrev pub visit85 : Record
-visit85 = visitDated (ymd 2020 3 25) S.NN false (true ∷ true ∷ []) (24 ∷ 12 ∷ [])
+visit85 = visitDated (ymd 2020 3 25) S.NN false (true ∷ true ∷ []) (240 ∷ 120 ∷ [])
 
 pub record FirstRefusals : Type 0 where
   -- a visit later than the latest day that fits the baseline
@@ -95,12 +95,12 @@ pub record AddedAtTheEdges : Type 0 where
   pub therapy : addedHeld printedAfterVisit43 (therapyDated (ymd 2020 2 19)) ≡ afterTherapy50
   pub death : addedHeld printedAfterVisit43 (deathDated (ymd 2020 2 19)) ≡ afterDeath50
   -- after a therapy v and the last evaluable visit move, and no visit counts
-  pub afterTherapy : addedHeld afterTherapy50 visit85 ≡ printedWith 36 85 true M.Absent (events M.Absent 85 (onDay 85)) response43
+  pub afterTherapy : addedHeld afterTherapy50 visit85 ≡ printedWith 360 85 true M.Absent (events M.Absent 85 (onDay 85)) response43
   -- after a progression the latest day alone moves
   pub afterProgression : addedHeld progressed visit85
-      ≡ printedWith 36 85 false M.Absent (events (onDay 43) 1 M.Absent) (counts M.Absent M.Absent B.PD)
+      ≡ printedWith 360 85 false M.Absent (events (onDay 43) 1 M.Absent) (counts M.Absent M.Absent B.PD)
   -- a therapy stays recorded behind it
-  pub deathAfterTherapy : addedHeld afterTherapy50 (deathDated (ymd 2020 2 19)) ≡ printedWith 36 50 true (onDay 50) (events M.Absent 43 (onDay 43)) response43
+  pub deathAfterTherapy : addedHeld afterTherapy50 (deathDated (ymd 2020 2 19)) ≡ printedWith 360 50 true (onDay 50) (events M.Absent 43 (onDay 43)) response43
 
 pub record LinesAtTheEdges : Type 0 where
   -- V 43 PR NN PR -40.0; therapy and death print no line of their own
@@ -113,12 +113,12 @@ pub record LinesAtTheEdges : Type 0 where
   pub missing : responsesHeld baselineMissing (visitDated (ymd 2020 2 12) S.NA true [] [])
       ≡ record { day = 43; target = NA; nontarget = NA; overall = NE; change = none } ∷ []
   -- a new lesion gives PD: V 85 PR NE PD -40.0
-  pub newLesion : responsesHeld printedAfterVisit43 (visitDated (ymd 2020 3 25) S.NE true (true ∷ true ∷ []) (24 ∷ 12 ∷ []))
+  pub newLesion : responsesHeld printedAfterVisit43 (visitDated (ymd 2020 3 25) S.NE true (true ∷ true ∷ []) (240 ∷ 120 ∷ []))
       ≡ record { day = 85; target = PR; nontarget = NE; overall = PD; change = signed true 400 } ∷ []
 
 -- a subject out of range by its latest day
 abbrev pub outside : Subject
-outside = printedWith 60 0 false M.Absent noEvents noCounts
+outside = printedWith 600 0 false M.Absent noEvents noCounts
 
 -- by value: 12, then 3 to 5, then 8 to 11
 pub record OrderByValue : Type 0 where
@@ -131,12 +131,12 @@ pub record OrderByValue : Type 0 where
 pub record OrderFromBytes : Type 0 where
   -- no bytes, with a subject out of range and in range
   pub outsideFirst : refusalOfAddingBytesHeld outside [] ≡ 12
-  pub outsideTherapy : refusalOfAddingBytesHeld outside (eleven (0x6F ∷ 0xCA ∷ 0x5D ∷ [])) ≡ 12
+  pub outsideTherapy : refusalOfAddingBytesHeld outside (thirteen (0x6F ∷ 0xCA ∷ 0x5D ∷ [])) ≡ 12
   pub short : refusalOfAddingBytesHeld printedOpened [] ≡ 1
-  pub noKind : refusalOfAddingBytesHeld printedOpened (eleven []) ≡ 2
+  pub noKind : refusalOfAddingBytesHeld printedOpened (thirteen []) ≡ 2
   -- a therapy of 2021-02-29; a baseline with its last spare bit set; the printed baseline a second time
-  pub noDate : refusalOfAddingBytesHeld printedOpened (eleven (0x6F ∷ 0xCA ∷ 0x5D ∷ [])) ≡ 3
-  pub spareBeforeBaseline : refusalOfAddingBytesHeld printedOpened (0x2F ∷ 0xC8 ∷ 0x21 ∷ 0xD0 ∷ 0x28 ∷ 0x82 ∷ 0x80 ∷ 0x00 ∷ 0x00 ∷ 0x00 ∷ 0x01 ∷ []) ≡ 5
+  pub noDate : refusalOfAddingBytesHeld printedOpened (thirteen (0x6F ∷ 0xCA ∷ 0x5D ∷ [])) ≡ 3
+  pub spareBeforeBaseline : refusalOfAddingBytesHeld printedOpened (0x2F ∷ 0xC8 ∷ 0x21 ∷ 0xD0 ∷ 0x32 ∷ 0x10 ∷ 0x64 ∷ 0x00 ∷ 0x00 ∷ 0x00 ∷ 0x00 ∷ 0x00 ∷ 0x01 ∷ []) ≡ 5
   pub secondBaseline : refusalOfAddingBytesHeld printedOpened printedBytes ≡ 8
   -- the printed visit, and a second time on its day
   pub visit : refusalOfAddingBytesHeld printedOpened printedVisitBytes ≡ 0

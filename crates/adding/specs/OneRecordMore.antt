@@ -9,6 +9,7 @@ use Rattle.dates.specs.declared.StudyDay.{StudyDay}
 use Rattle.records.specs.declared.Entry.{Entry}
 use Rattle.records.specs.declared.Entry.the-variants as E
 use Rattle.records.specs.declared.VisitEntry.{VisitEntry}
+use Rattle.records.specs.Forms.{newUnit}
 use Rattle.response_rules.specs.Words.{Word, overallWord}
 use Rattle.response_rules.specs.Inputs.{visitOf}
 use Rattle.response_rules.specs.Nadir.{afterVisit}
@@ -30,7 +31,7 @@ abbrev pub heldDay : Date → Date → StudyDay
 heldDay randomisation d = at (studyDay randomisation d)
 
 unfoldable pub overallHeld : Enrolment → FollowUp → VisitEntry → List Bool → List ℕ → Word
-overallHeld e f v measured sizes = overallAnswer (e .disease) (f .earlier) (visitOf v measured sizes)
+overallHeld e f v measured sizes = overallAnswer newUnit (e .disease) (f .earlier) (visitOf v measured sizes)
 
 -- the visit as judged, by the definitions and by what judging answers
 abbrev pub judgedHeld : Enrolment → FollowUp → StudyDay → VisitEntry → List Bool → List ℕ → Judged

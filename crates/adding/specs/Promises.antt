@@ -12,6 +12,7 @@ use Rattle.dates.specs.declared.StudyDay.{StudyDay}
 use Rattle.records.specs.declared.Record.{Record}
 use Rattle.records.specs.Entries.{dateOf}
 use Rattle.records.specs.Refusals.{refusalsOfRecord}
+use Rattle.records.specs.Forms.{newForm, newUnit}
 use Rattle.codec.specs.Reading.{refusalsOfBytes, recordOfBytes}
 use Rattle.outcome_rules.specs.VisitLines.{VisitLine}
 use Rattle.subject.specs.declared.Subject.{Subject}
@@ -49,16 +50,16 @@ pub record Answered (s : Subject) (r : Record) (n : ℕ) (a : AddAnswer) (t : Su
 
 -- 12 before the record, then 3 to 5, then 8 to 11; 0 for none
 unfoldable pub refusalOfAddingHeld : Subject → Record → ℕ
-refusalOfAddingHeld s r = first (12 when not (inRange s) ∷ refusalsOfRecord r ++ refusalsOfRecordHeld s r)
+refusalOfAddingHeld s r = first (12 when not (inRange s) ∷ refusalsOfRecord newUnit r ++ refusalsOfRecordHeld s r)
 
 abbrev pub Adds : Subject → Record → AddAnswer → Subject → Type 0
 Adds s r a t = Answered s r (refusalOfAddingHeld s r) a t
 
 -- 12 before the bytes, then 1 to 5, then 8 to 11; 0 for none
 unfoldable pub refusalOfAddingBytesHeld : Subject → List ℕ → ℕ
-refusalOfAddingBytesHeld s bytes = first (12 when not (inRange s) ∷ refusalsOfBytes bytes ++ refusalsOfRecordHeld s (recordOfBytes bytes))
+refusalOfAddingBytesHeld s bytes = first (12 when not (inRange s) ∷ refusalsOfBytes newForm bytes ++ refusalsOfRecordHeld s (recordOfBytes newForm bytes))
 
 pub record AddsBytes (s : Subject) (bytes : List ℕ) (a : AddAnswer) (t : Subject) : Type 0 where
-  pub added : Answered s (recordOfBytes bytes) (refusalOfAddingBytesHeld s bytes) a t
+  pub added : Answered s (recordOfBytes newForm bytes) (refusalOfAddingBytesHeld s bytes) a t
   -- the type `u8` gives it
   pub octets : AreBytes bytes

@@ -21,7 +21,7 @@ use Rattle.adding.specs.declared.AddAnswer.the-variants as A
 abbrev pub addNumber : AddAnswer → ℕ
 addNumber A.Done = 0
 addNumber (A.Judged v) = 0
-addNumber A.NotElevenBytes = 1
+addNumber A.WrongLength = 1
 addNumber A.NoSuchKind = 2
 addNumber A.SecondBaseline = 8
 addNumber A.AfterDeath = 9

@@ -8,6 +8,7 @@ use Rattle.dates.specs.declared.StudyDay.{StudyDay}
 use Rattle.records.specs.declared.Entry.{Entry}
 use Rattle.records.specs.declared.Entry.the-variants as E
 use Rattle.records.specs.declared.VisitEntry.{VisitEntry}
+use Rattle.records.specs.Forms.{newUnit}
 use Rattle.response_rules.specs.Words.{targetWord, statusWord, overallWord}
 use Rattle.response_rules.specs.Inputs.{visitOf}
 use Rattle.response_rules.specs.TargetAnswer.{targetAnswer}
@@ -35,7 +36,7 @@ responseValues v =
 abbrev pub addResponses : AddAnswer → List VisitLine
 addResponses A.Done = []
 addResponses (A.Judged v) = responseValues v ∷ []
-addResponses A.NotElevenBytes = []
+addResponses A.WrongLength = []
 addResponses A.NoSuchKind = []
 addResponses A.SecondBaseline = []
 addResponses A.AfterDeath = []
@@ -48,7 +49,7 @@ abbrev pub lineHeld : Enrolment → FollowUp → StudyDay → VisitEntry → Lis
 lineHeld e f day v measured sizes =
     record {
       day = day .0;
-      target = targetAnswer (e .disease) (f .earlier) (visitOf v measured sizes);
+      target = targetAnswer newUnit (e .disease) (f .earlier) (visitOf v measured sizes);
       nontarget = statusWord (v .status);
       overall = overallHeld e f v measured sizes;
       change = changeOf (e .disease) (visitOf v measured sizes);

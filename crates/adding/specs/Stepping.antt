@@ -15,6 +15,7 @@ use Rattle.records.specs.declared.Entry.{Entry}
 use Rattle.records.specs.declared.Record.{Record}
 use Rattle.records.specs.Entries.{dateOf}
 use Rattle.records.specs.Refusals.{refusalOfRecord}
+use Rattle.records.specs.Forms.{newForm, newUnit}
 use Rattle.codec.specs.Reading.{refusalOfBytes, recordOfBytes}
 use Rattle.subject.specs.declared.Enrolment.{Enrolment}
 use Rattle.subject.specs.declared.FollowUp.{FollowUp}
@@ -27,14 +28,14 @@ use Rattle.adding.specs.Refusals.{addNumber, refusalsOfLaterHeld, refusa
 -- a record value on its study day, with the number of its own refusal
 pub record DatedAs (randomisation : Date) (r : Record) (x : Dated) : Type 0 where
   pub day : x .day ≡ heldDay randomisation (dateOf (r .entry))
-  pub own : addNumber (x .own) ≡ refusalOfRecord r
+  pub own : addNumber (x .own) ≡ refusalOfRecord newUnit r
   pub found : x .found ≡ r
 
 -- the same of bytes. The number is that of the bytes where the randomisation date exists; else 12 meets the subject before it
 pub record DatedFrom (randomisation : Date) (bytes : List ℕ) (x : Dated) : Type 0 where
-  pub own : dateExists randomisation ≡ true → addNumber (x .own) ≡ refusalOfBytes bytes
-  pub day : refusalOfBytes bytes ≡ 0 → x .day ≡ heldDay randomisation (dateOf (recordOfBytes bytes .entry))
-  pub found : refusalOfBytes bytes ≡ 0 → x .found ≡ recordOfBytes bytes
+  pub own : dateExists randomisation ≡ true → addNumber (x .own) ≡ refusalOfBytes newForm bytes
+  pub day : refusalOfBytes newForm bytes ≡ 0 → x .day ≡ heldDay randomisation (dateOf (recordOfBytes newForm bytes .entry))
+  pub found : refusalOfBytes newForm bytes ≡ 0 → x .found ≡ recordOfBytes newForm bytes
   -- the type `u8` gives it
   pub octets : AreBytes bytes
 

@@ -18,6 +18,7 @@ ghost use Rattle.dates.specs.Answers.{studyDayValues};
 ghost use Rattle.laws.specs.Refusals.{first};
 ghost use Rattle.records.specs.Refusals.{refusalsOfFields};
 ghost use Rattle.records.specs.declared.Entry.the-variants as E;
+ghost use Rattle.records.specs.Forms.{newForm, newUnit};
 ghost use Rattle.codec.specs.Reading.{rawVisit, refusalOfBytes, recordOfBytes};
 ghost use Rattle.adding.specs.Refusals.{addNumber};
 ghost use Rattle.adding.specs.Stepping.{DatedAs, DatedFrom};
@@ -45,7 +46,7 @@ fn exists(counted: StudyDayAnswer) -> bool
 
 // 3 by the date that was counted, then 4 and 5.
 fn own_of_visit(counted: StudyDayAnswer, v: VisitFields) -> AddAnswer
-    ensures { λ a. ⌜ addNumber a ≡ first (refusalsOfFields (eqb (studyDayValues counted .refusal) 3) (E.Visit (v .entry)) (v .measured) (v .sizes) (v .badstatus) (v .spare)) ⌝ }
+    ensures { λ a. ⌜ addNumber a ≡ first (refusalsOfFields newUnit (eqb (studyDayValues counted .refusal) 3) (E.Visit (v .entry)) (v .measured) (v .sizes) (v .badstatus) (v .spare)) ⌝ }
 {
     let measured = v.measured;
     let sizes = v.sizes;
@@ -74,7 +75,7 @@ fn dated_visit(day: StudyDay, own: AddAnswer, v: VisitFields) -> Dated
 }
 
 fn dated_other(day: StudyDay, bytes: &[u8]) -> Dated
-    ensures { λ x. ⌜ (x .day ≡ day) × (addNumber (x .own) ≡ refusalOfBytes (now (bytes .entry))) × (x .found ≡ recordOfBytes (now (bytes .entry))) × AreBytes (now (bytes .entry)) ⌝ }
+    ensures { λ x. ⌜ (x .day ≡ day) × (addNumber (x .own) ≡ refusalOfBytes newForm (now (bytes .entry))) × (x .found ≡ recordOfBytes newForm (now (bytes .entry))) × AreBytes (now (bytes .entry)) ⌝ }
 {
     let read = codec::read(bytes);
     let answer = read.answer;

@@ -38,7 +38,7 @@ pub enum AddAnswer {
     // A visit was added.
     Judged(VisitResponse),
     // This and the next from bytes alone.
-    NotElevenBytes,
+    WrongLength,
     NoSuchKind,
     SecondBaseline,
     AfterDeath,
@@ -55,7 +55,7 @@ pub fn add_number(answer: AddAnswer) -> u8
     match answer {
         AddAnswer::Done => 0,
         AddAnswer::Judged(_) => 0,
-        AddAnswer::NotElevenBytes => 1,
+        AddAnswer::WrongLength => 1,
         AddAnswer::NoSuchKind => 2,
         AddAnswer::SecondBaseline => 8,
         AddAnswer::AfterDeath => 9,

@@ -33,7 +33,7 @@ pub(crate) fn read_answer(answer: ReadAnswer) -> AddAnswer
 {
     match answer {
         ReadAnswer::Done => AddAnswer::Done,
-        ReadAnswer::NotElevenBytes => AddAnswer::NotElevenBytes,
+        ReadAnswer::WrongLength => AddAnswer::WrongLength,
         ReadAnswer::NoSuchKind => AddAnswer::NoSuchKind,
         ReadAnswer::Refused(own) => AddAnswer::Refused(own),
     }

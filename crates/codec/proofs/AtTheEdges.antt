@@ -5,7 +5,7 @@ use Rattle.dates.specs.Calendar.{leapYear, daysInMonth, dateExists}
 use Rattle.records.specs.Refusals.{sizeOutsideLimits, measuredOutsideLimits, notZeroBeyondCount, notZeroUnmeasured, withoutDisease, outsideLimits, notZero, refusalsOfRead}
 use Rattle.codec.specs.Bytes.{recordNumber, bytesOf, bytesNumber}
 use Rattle.codec.specs.Reading.{statusFrom, baselineIn, visitFieldsIn, visitFieldsOf, visitIn, spareIn, rawIn, refusalsOfRecordNumber, refusalsOfBytes, recordOfBytes}
-use Rattle.codec.specs.Examples.{BytesOfEachKind, ReadOfEachKind, FirstRefusals, FieldsByTheirBits, FieldsOfVisits}
+use Rattle.codec.specs.Examples.{BytesOfEachKind, ReadOfEachKind, FirstRefusals, OldRecords, FieldsByTheirBits, FieldsOfVisits}
 
 pub bytes-of-each-kind : BytesOfEachKind
 unfolding recordNumber bytesOf
@@ -44,6 +44,7 @@ first-refusals =
     record {
       noBytes = refl;
       twelveBytes = refl;
+      fourteenBytes = refl;
       kind0 = refl;
       kind5 = refl;
       noDate = refl;
@@ -55,6 +56,21 @@ first-refusals =
       firstOfDeath = refl;
       lastOfDeath = refl;
       numbers = refl;
+    }
+
+pub old-records : OldRecords
+unfolding recordNumber bytesOf leapYear daysInMonth dateExists sizeOutsideLimits measuredOutsideLimits notZeroBeyondCount notZeroUnmeasured withoutDisease outsideLimits notZero refusalsOfRead bytesNumber statusFrom baselineIn visitIn spareIn rawIn refusalsOfRecordNumber refusalsOfBytes recordOfBytes
+old-records =
+    record {
+      written = refl;
+      read = refl;
+      lengths = refl;
+      others = refl;
+      nodes = refl;
+      measured = refl;
+      spareOfBaseline = refl;
+      spareOfVisit = refl;
+      spareOfDeath = refl;
     }
 
 pub fields-by-their-bits : FieldsByTheirBits
@@ -71,6 +87,6 @@ fields-of-visits =
       therapy = refl;
       baseline = refl;
       noBytes = refl;
-      tenBytes = refl;
       twelveBytes = refl;
+      fourteenBytes = refl;
     }

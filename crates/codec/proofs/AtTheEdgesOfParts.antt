@@ -2,14 +2,14 @@
 -- Assumes nothing.
 use mathlib.Core.Path.{refl}
 use Rattle.codec.specs.Parts.{badLength}
-use Rattle.codec.specs.PartsExamples.{LengthsAtTheEdges, CutAtTheEdges}
+use Rattle.codec.specs.PartsExamples.{LengthsAtTheEdges, CutAtTheEdges, OldLengths}
 
 pub lengths-at-the-edges : LengthsAtTheEdges
 unfolding badLength
 lengths-at-the-edges =
     record {
       nothing = refl;
-      tenBytes = refl;
+      twelveBytes = refl;
       oneRecord = refl;
       oneByteMore = refl;
       twoRecords = refl;
@@ -19,4 +19,17 @@ lengths-at-the-edges =
     }
 
 pub cut-at-the-edges : CutAtTheEdges
-cut-at-the-edges = record { twoRecords = refl; tenBytesMore = refl; joinedInOrder = refl }
+cut-at-the-edges = record { twoRecords = refl; twelveBytesMore = refl; joinedInOrder = refl }
+
+pub old-lengths : OldLengths
+unfolding badLength
+old-lengths =
+    record {
+      nothing = refl;
+      tenBytes = refl;
+      oneRecord = refl;
+      thirteenBytes = refl;
+      mostRecords = refl;
+      mostAndARecord = refl;
+      twoRecords = refl;
+    }

@@ -14,11 +14,12 @@ use Rattle.laws.specs.Layout.{AreBytes}
 use Rattle.dates.specs.declared.Date.{Date}
 use Rattle.records.specs.declared.Entry.the-variants as E
 use Rattle.records.specs.Entries.{dateOf}
+use Rattle.records.specs.Forms.{newForm, newUnit}
 use Rattle.codec.specs.Bytes.{recordLength, bytesNumber}
 use Rattle.codec.specs.Reading.{baselineIn, rawVisit, visitFieldsIn, visitIn, spareIn, dateIn, kindIn, rawIn, refusalsOfRaw, refusalsOfRecordNumber, refusalsOfBytes, refusalOfBytes, recordOfBytes, visitFieldsOf}
 use Rattle.codec.specs.declared.Raw.{Raw}
 use Rattle.codec.specs.declared.VisitFields.{VisitFields}
-use Rattle.codec.proofs.NoRefusalOfBytes.{eleven}
+use Rattle.codec.proofs.NoRefusalOfBytes.{whole}
 
 -- ---- the date stands at the same place in every layout
 
@@ -26,37 +27,37 @@ either-date : (x : Bool) (v w : Raw) (d : Date) → dateOf (v .read .entry) ≡ 
 either-date true v w d a b = a
 either-date false v w d a b = b
 
-raw-date : (kind n : ℕ) → dateOf (rawIn kind n .read .entry) ≡ visitFieldsIn n .entry .date
+raw-date : (kind n : ℕ) → dateOf (rawIn newForm kind n .read .entry) ≡ visitFieldsIn newForm n .entry .date
 unfolding rawIn baselineIn visitIn spareIn visitFieldsIn
 raw-date kind n =
-    either-date (eqb kind 1) (baselineIn n) _ (visitFieldsIn n .entry .date) refl
-    (either-date (eqb kind 2) (visitIn n) _ (visitFieldsIn n .entry .date) refl
-    (either-date (eqb kind 3) (spareIn (E.Therapy (dateIn n)) n) (spareIn (E.Death (dateIn n)) n) (visitFieldsIn n .entry .date) refl refl))
+    either-date (eqb kind 1) (baselineIn newForm n) _ (visitFieldsIn newForm n .entry .date) refl
+    (either-date (eqb kind 2) (visitIn newForm n) _ (visitFieldsIn newForm n .entry .date) refl
+    (either-date (eqb kind 3) (spareIn newForm (E.Therapy (dateIn newForm n)) n) (spareIn newForm (E.Death (dateIn newForm n)) n) (visitFieldsIn newForm n .entry .date) refl refl))
 
-module _ (s : List ℕ) (b : AreBytes s) (e : refusalOfBytes s ≡ 0) where
-  fields-there : visitFieldsOf s ≡ visitFieldsIn (bytesNumber s)
+module _ (s : List ℕ) (b : AreBytes s) (e : refusalOfBytes newForm s ≡ 0) where
+  fields-there : visitFieldsOf s ≡ visitFieldsIn newForm (bytesNumber newForm s)
   unfolding visitFieldsOf
-  fields-there = rw (eq-eqb (length s) recordLength (eleven s b e))
+  fields-there = rw (eq-eqb (length s) recordLength (whole newForm s b e))
 
-  pub found-date : dateOf (recordOfBytes s .entry) ≡ visitFieldsOf s .entry .date
+  pub found-date : dateOf (recordOfBytes newForm s .entry) ≡ visitFieldsOf s .entry .date
   unfolding recordOfBytes
-  found-date = rw (eq-eqb (refusalOfBytes s) 0 e) (raw-date (kindIn (bytesNumber s)) (bytesNumber s)) ∙ ap (λ v. v .entry .date) (sym fields-there)
+  found-date = rw (eq-eqb (refusalOfBytes newForm s) 0 e) (raw-date (kindIn newForm (bytesNumber newForm s)) (bytesNumber newForm s)) ∙ ap (λ v. v .entry .date) (sym fields-there)
 
 -- ---- a visit
 
 -- the kind read by the visit's layout is the kind
-kind-of-fields : (n : ℕ) → visitFieldsIn n .isvisit ≡ eqb (kindIn n) 2
+kind-of-fields : (n : ℕ) → visitFieldsIn newForm n .isvisit ≡ eqb (kindIn newForm n) 2
 unfolding visitFieldsIn
 kind-of-fields n = refl
 
-second-raw : (n : ℕ) → rawIn 2 n ≡ rawVisit (visitFieldsIn n)
+second-raw : (n : ℕ) → rawIn newForm 2 n ≡ rawVisit (visitFieldsIn newForm n)
 unfolding rawIn visitIn visitFieldsIn
 second-raw n = refl
 
 -- bytes whose fields are a visit's: their refusal and their record are those of the fields
 pub record IsVisit (s : List ℕ) (v : VisitFields) : Type 0 where
-  pub refusal : refusalOfBytes s ≡ first (refusalsOfRaw (rawVisit v))
-  pub found : refusalOfBytes s ≡ 0 → recordOfBytes s ≡ rawVisit v .read
+  pub refusal : refusalOfBytes newForm s ≡ first (refusalsOfRaw newUnit (rawVisit v))
+  pub found : refusalOfBytes newForm s ≡ 0 → recordOfBytes newForm s ≡ rawVisit v .read
 
 pub is-visit : (s : List ℕ) → visitFieldsOf s .isvisit ≡ true → IsVisit s (visitFieldsOf s)
 unfolding visitFieldsOf refusalsOfBytes refusalsOfRecordNumber recordOfBytes
@@ -65,7 +66,7 @@ is-visit s = go (eqb (length s) recordLength) refl
     go : (x : Bool) → eqb (length s) recordLength ≡ x → visitFieldsOf s .isvisit ≡ true → IsVisit s (visitFieldsOf s)
     go false l h = absurd (never (sym (rw l at h)))
     go true l h =
-        let n = bytesNumber s in
-        let kind : kindIn n ≡ 2 = eqb-true (kindIn n) 2 (sym (kind-of-fields n) ∙ (rw l at h)) in
+        let n = bytesNumber newForm s in
+        let kind : kindIn newForm n ≡ 2 = eqb-true (kindIn newForm n) 2 (sym (kind-of-fields n) ∙ (rw l at h)) in
         let raw = second-raw n in
-        rw l (record { refusal = rw (l, kind, raw); found = λ e. rw (eq-eqb (refusalOfBytes s) 0 e, kind, raw) })
+        rw l (record { refusal = rw (l, kind, raw); found = λ e. rw (eq-eqb (refusalOfBytes newForm s) 0 e, kind, raw) })

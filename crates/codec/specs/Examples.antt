@@ -12,59 +12,61 @@ use Rattle.records.specs.declared.OwnRefusal.the-variants as O
 use Rattle.records.specs.declared.Record.{Record}
 use Rattle.records.specs.declared.Status.{Status}
 use Rattle.records.specs.declared.Status.the-variants as S
+use Rattle.records.specs.Forms.{oldForm, newForm}
 use Rattle.codec.specs.Bytes.{bytesOf}
 use Rattle.codec.specs.Fields.{fieldAt, targetsAt}
 use Rattle.codec.specs.Reading.{readNumber, refusalOfBytes, recordOfBytes, visitFieldsOf}
 use Rattle.codec.specs.declared.ReadAnswer.the-variants as A
 use Rattle.codec.specs.declared.VisitFields.{VisitFields}
 
--- 11 bytes, the first of them as given
-abbrev pub eleven : List ℕ → List ℕ
-eleven first = filled 0 11 first
+-- a record's bytes, the first of them as given
+abbrev pub thirteen : List ℕ → List ℕ
+thirteen first = filled 0 13 first
 
--- the baseline of the printed example, and its bytes as document 01 prints them
+-- the baseline of the printed example, with the sizes of document 02, request 1, and its bytes:
+-- 001 011111100100 0001 00001 1 1 010, 0 0000110010000, 1 0000011001000, then zeros
 abbrev pub printedBaseline : Record
-printedBaseline = baselineDated (ymd 2020 1 1) true true 2 (false ∷ true ∷ []) (40 ∷ 20 ∷ [])
+printedBaseline = baselineDated (ymd 2020 1 1) true true 2 (false ∷ true ∷ []) (400 ∷ 200 ∷ [])
 
 abbrev pub printedBytes : List ℕ
-printedBytes = 0x2F ∷ 0xC8 ∷ 0x21 ∷ 0xD0 ∷ 0x28 ∷ 0x82 ∷ 0x80 ∷ 0x00 ∷ 0x00 ∷ 0x00 ∷ 0x00 ∷ []
+printedBytes = 0x2F ∷ 0xC8 ∷ 0x21 ∷ 0xD0 ∷ 0x32 ∷ 0x10 ∷ 0x64 ∷ 0x00 ∷ 0x00 ∷ 0x00 ∷ 0x00 ∷ 0x00 ∷ 0x00 ∷ []
 
--- five targets, each with its own size, nodes and others in turn:
--- 001 011111100100 0001 00001 1 1 101, 1 21, 0 32, 1 43, 0 54, 1 65, 0000
+-- five targets, each with its own size, none of them whole millimetres, nodes and others in turn:
+-- 001 011111100100 0001 00001 1 1 101, 1 211, 0 322, 1 433, 0 544, 1 655, 00000
 abbrev pub fiveTargets : Record
-fiveTargets = baselineDated (ymd 2020 1 1) true true 5 (true ∷ false ∷ true ∷ false ∷ true ∷ []) (21 ∷ 32 ∷ 43 ∷ 54 ∷ 65 ∷ [])
+fiveTargets = baselineDated (ymd 2020 1 1) true true 5 (true ∷ false ∷ true ∷ false ∷ true ∷ []) (211 ∷ 322 ∷ 433 ∷ 544 ∷ 655 ∷ [])
 
 abbrev pub fiveTargetsBytes : List ℕ
-fiveTargetsBytes = 0x2F ∷ 0xC8 ∷ 0x21 ∷ 0xEC ∷ 0x15 ∷ 0x04 ∷ 0x10 ∷ 0xAC ∷ 0x1B ∷ 0x44 ∷ 0x10 ∷ []
+fiveTargetsBytes = 0x2F ∷ 0xC8 ∷ 0x21 ∷ 0xEC ∷ 0x1A ∷ 0x60 ∷ 0xA1 ∷ 0x43 ∷ 0x62 ∷ 0x11 ∷ 0x04 ∷ 0x51 ∷ 0xE0 ∷ []
 
--- no non-target disease, one target of 20
+-- no non-target disease, one target of 20.0 mm
 abbrev pub oneTarget : Record
-oneTarget = baselineDated (ymd 2020 1 1) true false 1 [] (20 ∷ [])
+oneTarget = baselineDated (ymd 2020 1 1) true false 1 [] (200 ∷ [])
 
 abbrev pub oneTargetBytes : List ℕ
-oneTargetBytes = eleven (0x2F ∷ 0xC8 ∷ 0x21 ∷ 0x88 ∷ 0x14 ∷ [])
+oneTargetBytes = thirteen (0x2F ∷ 0xC8 ∷ 0x21 ∷ 0x88 ∷ 0x19 ∷ [])
 
 -- baseline missing
 abbrev pub missing : Record
 missing = baselineDated (ymd 2020 1 1) false false 0 [] []
 
 abbrev pub missingBytes : List ℕ
-missingBytes = eleven (0x2F ∷ 0xC8 ∷ 0x21 ∷ [])
+missingBytes = thirteen (0x2F ∷ 0xC8 ∷ 0x21 ∷ [])
 
 -- the first visit of the printed example
 abbrev pub printedVisit : Record
-printedVisit = visitDated (ymd 2020 2 12) S.NN false (true ∷ true ∷ []) (24 ∷ 12 ∷ [])
+printedVisit = visitDated (ymd 2020 2 12) S.NN false (true ∷ true ∷ []) (240 ∷ 120 ∷ [])
 
 abbrev pub printedVisitBytes : List ℕ
-printedVisitBytes = eleven (0x4F ∷ 0xC8 ∷ 0x4C ∷ 0x48 ∷ 0x31 ∷ 0x03 ∷ [])
+printedVisitBytes = thirteen (0x4F ∷ 0xC8 ∷ 0x4C ∷ 0x48 ∷ 0x3C ∷ 0x20 ∷ 0x78 ∷ [])
 
 -- the last day in range, a new lesion, the third target not measured and the others each with its own size:
--- 010 100000110011 1100 11111 001 1, 1 11, 1 22, 0 0, 1 44, 1 500, 00000
+-- 010 100000110011 1100 11111 001 1, 1 111, 1 222, 0 0, 1 444, 1 5000, 000000
 abbrev pub fourMeasured : Record
-fourMeasured = visitDated (ymd 2099 12 31) S.CR true (true ∷ true ∷ false ∷ true ∷ true ∷ []) (11 ∷ 22 ∷ 0 ∷ 44 ∷ 500 ∷ [])
+fourMeasured = visitDated (ymd 2099 12 31) S.CR true (true ∷ true ∷ false ∷ true ∷ true ∷ []) (111 ∷ 222 ∷ 0 ∷ 444 ∷ 5000 ∷ [])
 
 abbrev pub fourMeasuredBytes : List ℕ
-fourMeasuredBytes = 0x50 ∷ 0x67 ∷ 0x9F ∷ 0x38 ∷ 0x17 ∷ 0x05 ∷ 0x80 ∷ 0x04 ∷ 0x2C ∷ 0xBE ∷ 0x80 ∷ []
+fourMeasuredBytes = 0x50 ∷ 0x67 ∷ 0x9F ∷ 0x38 ∷ 0x1B ∷ 0xE0 ∷ 0xDE ∷ 0x00 ∷ 0x02 ∷ 0x1B ∷ 0xCC ∷ 0xE2 ∷ 0x00 ∷ []
 
 -- visits of 2020-02-12 with a new lesion and no target measured, one for each status, and their bytes: the fourth is the status, the new lesion and the
 -- mark of the first target
@@ -72,66 +74,95 @@ abbrev pub eachStatus : List Record
 eachStatus = map (λ (s : Status). visitDated (ymd 2020 2 12) s true [] []) (S.NA ∷ S.CR ∷ S.NN ∷ S.PD ∷ S.NE ∷ [])
 
 abbrev pub eachStatusBytes : List (List ℕ)
-eachStatusBytes = map (λ (n : ℕ). eleven (0x4F ∷ 0xC8 ∷ 0x4C ∷ n ∷ [])) (0x10 ∷ 0x30 ∷ 0x50 ∷ 0x70 ∷ 0x90 ∷ [])
+eachStatusBytes = map (λ (n : ℕ). thirteen (0x4F ∷ 0xC8 ∷ 0x4C ∷ n ∷ [])) (0x10 ∷ 0x30 ∷ 0x50 ∷ 0x70 ∷ 0x90 ∷ [])
 
 abbrev pub therapyBytes : List ℕ
-therapyBytes = eleven (0x6F ∷ 0xC8 ∷ 0x54 ∷ [])
+therapyBytes = thirteen (0x6F ∷ 0xC8 ∷ 0x54 ∷ [])
 
 abbrev pub deathBytes : List ℕ
-deathBytes = eleven (0x8F ∷ 0xC8 ∷ 0x54 ∷ [])
+deathBytes = thirteen (0x8F ∷ 0xC8 ∷ 0x54 ∷ [])
 
 -- fields bit-packed, most significant first; kind 1 baseline, 2 visit, 3 therapy, 4 death; status 0 NA, 1 CR, 2 NN, 3 PD, 4 NE
 pub record BytesOfEachKind : Type 0 where
-  pub printed : bytesOf printedBaseline ≡ printedBytes
-  pub targets : bytesOf fiveTargets ≡ fiveTargetsBytes
-  pub withoutNontarget : bytesOf oneTarget ≡ oneTargetBytes
-  pub baselineMissing : bytesOf missing ≡ missingBytes
-  pub visit : bytesOf printedVisit ≡ printedVisitBytes
-  pub measured : bytesOf fourMeasured ≡ fourMeasuredBytes
-  pub statuses : map bytesOf eachStatus ≡ eachStatusBytes
-  pub therapy : bytesOf (therapyDated (ymd 2020 2 20)) ≡ therapyBytes
-  pub death : bytesOf (deathDated (ymd 2020 2 20)) ≡ deathBytes
+  pub printed : bytesOf newForm printedBaseline ≡ printedBytes
+  pub targets : bytesOf newForm fiveTargets ≡ fiveTargetsBytes
+  pub withoutNontarget : bytesOf newForm oneTarget ≡ oneTargetBytes
+  pub baselineMissing : bytesOf newForm missing ≡ missingBytes
+  pub visit : bytesOf newForm printedVisit ≡ printedVisitBytes
+  pub measured : bytesOf newForm fourMeasured ≡ fourMeasuredBytes
+  pub statuses : map (bytesOf newForm) eachStatus ≡ eachStatusBytes
+  pub therapy : bytesOf newForm (therapyDated (ymd 2020 2 20)) ≡ therapyBytes
+  pub death : bytesOf newForm (deathDated (ymd 2020 2 20)) ≡ deathBytes
 
 -- the same bytes read
 pub record ReadOfEachKind : Type 0 where
-  pub printed : recordOfBytes printedBytes ≡ printedBaseline
-  pub targets : recordOfBytes fiveTargetsBytes ≡ fiveTargets
-  pub withoutNontarget : recordOfBytes oneTargetBytes ≡ oneTarget
-  pub baselineMissing : recordOfBytes missingBytes ≡ missing
-  pub visit : recordOfBytes printedVisitBytes ≡ printedVisit
-  pub measured : recordOfBytes fourMeasuredBytes ≡ fourMeasured
-  pub statuses : map recordOfBytes eachStatusBytes ≡ eachStatus
-  pub therapy : recordOfBytes therapyBytes ≡ therapyDated (ymd 2020 2 20)
-  pub death : recordOfBytes deathBytes ≡ deathDated (ymd 2020 2 20)
+  pub printed : recordOfBytes newForm printedBytes ≡ printedBaseline
+  pub targets : recordOfBytes newForm fiveTargetsBytes ≡ fiveTargets
+  pub withoutNontarget : recordOfBytes newForm oneTargetBytes ≡ oneTarget
+  pub baselineMissing : recordOfBytes newForm missingBytes ≡ missing
+  pub visit : recordOfBytes newForm printedVisitBytes ≡ printedVisit
+  pub measured : recordOfBytes newForm fourMeasuredBytes ≡ fourMeasured
+  pub statuses : map (recordOfBytes newForm) eachStatusBytes ≡ eachStatus
+  pub therapy : recordOfBytes newForm therapyBytes ≡ therapyDated (ymd 2020 2 20)
+  pub death : recordOfBytes newForm deathBytes ≡ deathDated (ymd 2020 2 20)
   -- a refusal carries its number and nothing else: beside it the blank record
-  pub refused : recordOfBytes [] ≡ therapyDated (ymd 0 0 0)
+  pub refused : recordOfBytes newForm [] ≡ therapyDated (ymd 0 0 0)
 
 -- 1 before 2, 2 before 3
 pub record FirstRefusals : Type 0 where
-  pub noBytes : refusalOfBytes [] ≡ 1
-  pub twelveBytes : refusalOfBytes (filled 0 12 []) ≡ 1
-  pub kind0 : refusalOfBytes (eleven []) ≡ 2
-  pub kind5 : refusalOfBytes (eleven (0xAF ∷ 0xC8 ∷ 0x54 ∷ [])) ≡ 2
-  pub noDate : refusalOfBytes (eleven (0x60 ∷ [])) ≡ 3
+  pub noBytes : refusalOfBytes newForm [] ≡ 1
+  pub twelveBytes : refusalOfBytes newForm (filled 0 12 (0x6F ∷ 0xC8 ∷ 0x54 ∷ [])) ≡ 1
+  pub fourteenBytes : refusalOfBytes newForm (filled 0 14 (0x6F ∷ 0xC8 ∷ 0x54 ∷ [])) ≡ 1
+  pub kind0 : refusalOfBytes newForm (thirteen []) ≡ 2
+  pub kind5 : refusalOfBytes newForm (thirteen (0xAF ∷ 0xC8 ∷ 0x54 ∷ [])) ≡ 2
+  pub noDate : refusalOfBytes newForm (thirteen (0x60 ∷ [])) ≡ 3
   -- a status of 5 in three bits
-  pub status5 : refusalOfBytes (eleven (0x4F ∷ 0xC8 ∷ 0x4C ∷ 0xA0 ∷ [])) ≡ 4
-  -- the first and the last spare bit: 4 of a baseline, 5 of a visit, 64 of a therapy and of a death
-  pub spareOfBaseline : map (λ (n : ℕ). refusalOfBytes (0x2F ∷ 0xC8 ∷ 0x21 ∷ 0x88 ∷ 0x14 ∷ 0 ∷ 0 ∷ 0 ∷ 0 ∷ 0 ∷ n ∷ [])) (0x08 ∷ 0x01 ∷ []) ≡ 5 ∷ 5 ∷ []
-  pub spareOfVisit : map (λ (n : ℕ). refusalOfBytes (0x4F ∷ 0xC8 ∷ 0x4C ∷ 0x10 ∷ 0 ∷ 0 ∷ 0 ∷ 0 ∷ 0 ∷ 0 ∷ n ∷ [])) (0x10 ∷ 0x01 ∷ []) ≡ 5 ∷ 5 ∷ []
-  pub firstOfTherapy : refusalOfBytes (eleven (0x6F ∷ 0xC8 ∷ 0x54 ∷ 0x80 ∷ [])) ≡ 5
-  pub lastOfTherapy : refusalOfBytes (0x6F ∷ 0xC8 ∷ 0x54 ∷ 0 ∷ 0 ∷ 0 ∷ 0 ∷ 0 ∷ 0 ∷ 0 ∷ 0x01 ∷ []) ≡ 5
-  pub firstOfDeath : refusalOfBytes (eleven (0x8F ∷ 0xC8 ∷ 0x54 ∷ 0x80 ∷ [])) ≡ 5
-  pub lastOfDeath : refusalOfBytes (0x8F ∷ 0xC8 ∷ 0x54 ∷ 0 ∷ 0 ∷ 0 ∷ 0 ∷ 0 ∷ 0 ∷ 0 ∷ 0x01 ∷ []) ≡ 5
-  -- 1 not 11 bytes; 2 kind not 1 to 4; 3 to 5
-  pub numbers : map readNumber (A.Done ∷ A.NotElevenBytes ∷ A.NoSuchKind ∷ A.Refused O.NotZero ∷ []) ≡ 0 ∷ 1 ∷ 2 ∷ 5 ∷ []
+  pub status5 : refusalOfBytes newForm (thirteen (0x4F ∷ 0xC8 ∷ 0x4C ∷ 0xA0 ∷ [])) ≡ 4
+  -- the first and the last spare bit: 5 of a baseline, 6 of a visit, 80 of a therapy and of a death
+  pub spareOfBaseline : map (λ (n : ℕ). refusalOfBytes newForm (0x2F ∷ 0xC8 ∷ 0x21 ∷ 0x88 ∷ 0x19 ∷ 0 ∷ 0 ∷ 0 ∷ 0 ∷ 0 ∷ 0 ∷ 0 ∷ n ∷ [])) (0x10 ∷ 0x01 ∷ []) ≡ 5 ∷ 5 ∷ []
+  pub spareOfVisit : map (λ (n : ℕ). refusalOfBytes newForm (0x4F ∷ 0xC8 ∷ 0x4C ∷ 0x10 ∷ 0 ∷ 0 ∷ 0 ∷ 0 ∷ 0 ∷ 0 ∷ 0 ∷ 0 ∷ n ∷ [])) (0x20 ∷ 0x01 ∷ []) ≡ 5 ∷ 5 ∷ []
+  pub firstOfTherapy : refusalOfBytes newForm (thirteen (0x6F ∷ 0xC8 ∷ 0x54 ∷ 0x80 ∷ [])) ≡ 5
+  pub lastOfTherapy : refusalOfBytes newForm (0x6F ∷ 0xC8 ∷ 0x54 ∷ 0 ∷ 0 ∷ 0 ∷ 0 ∷ 0 ∷ 0 ∷ 0 ∷ 0 ∷ 0 ∷ 0x01 ∷ []) ≡ 5
+  pub firstOfDeath : refusalOfBytes newForm (thirteen (0x8F ∷ 0xC8 ∷ 0x54 ∷ 0x80 ∷ [])) ≡ 5
+  pub lastOfDeath : refusalOfBytes newForm (0x8F ∷ 0xC8 ∷ 0x54 ∷ 0 ∷ 0 ∷ 0 ∷ 0 ∷ 0 ∷ 0 ∷ 0 ∷ 0 ∷ 0 ∷ 0x01 ∷ []) ≡ 5
+  -- 1 not 13 bytes; 2 kind not 1 to 4; 3 to 5
+  pub numbers : map readNumber (A.Done ∷ A.WrongLength ∷ A.NoSuchKind ∷ A.Refused O.NotZero ∷ []) ≡ 0 ∷ 1 ∷ 2 ∷ 5 ∷ []
+
+-- the old form, as document 01 has it: whole millimetres in 10 bits, 11 bytes, 4 spare bits of a baseline and 5 of a visit
+abbrev pub oldBaseline : Record
+oldBaseline = baselineDated (ymd 2020 1 1) true true 2 (false ∷ true ∷ []) (40 ∷ 20 ∷ [])
+
+abbrev pub oldBaselineBytes : List ℕ
+oldBaselineBytes = 0x2F ∷ 0xC8 ∷ 0x21 ∷ 0xD0 ∷ 0x28 ∷ 0x82 ∷ 0x80 ∷ 0x00 ∷ 0x00 ∷ 0x00 ∷ 0x00 ∷ []
+
+-- 010 100000110011 1100 11111 001 1, 1 11, 1 22, 0 0, 1 44, 1 500, 00000
+abbrev pub oldVisit : Record
+oldVisit = visitDated (ymd 2099 12 31) S.CR true (true ∷ true ∷ false ∷ true ∷ true ∷ []) (11 ∷ 22 ∷ 0 ∷ 44 ∷ 500 ∷ [])
+
+abbrev pub oldVisitBytes : List ℕ
+oldVisitBytes = 0x50 ∷ 0x67 ∷ 0x9F ∷ 0x38 ∷ 0x17 ∷ 0x05 ∷ 0x80 ∷ 0x04 ∷ 0x2C ∷ 0xBE ∷ 0x80 ∷ []
+
+pub record OldRecords : Type 0 where
+  pub written : map (bytesOf oldForm) (oldBaseline ∷ oldVisit ∷ []) ≡ oldBaselineBytes ∷ oldVisitBytes ∷ []
+  pub read : map (recordOfBytes oldForm) (oldBaselineBytes ∷ oldVisitBytes ∷ []) ≡ oldBaseline ∷ oldVisit ∷ []
+  -- 1 not 11 bytes
+  pub lengths : map (λ (n : ℕ). refusalOfBytes oldForm (filled 0 n (0x6F ∷ 0xC8 ∷ 0x54 ∷ []))) (10 ∷ 11 ∷ 12 ∷ 13 ∷ []) ≡ 1 ∷ 0 ∷ 1 ∷ 1 ∷ []
+  -- 4: a target of 9 mm and one of 10, a node of 14 and one of 15, sizes measured of 500 and 501
+  pub others : map (λ (n : ℕ). refusalOfBytes oldForm (filled 0 11 (0x2F ∷ 0xC8 ∷ 0x21 ∷ 0x88 ∷ n ∷ []))) (9 ∷ 10 ∷ []) ≡ 4 ∷ 0 ∷ []
+  pub nodes : map (λ (n : ℕ). refusalOfBytes oldForm (filled 0 11 (0x2F ∷ 0xC8 ∷ 0x21 ∷ 0x8C ∷ n ∷ []))) (14 ∷ 15 ∷ []) ≡ 4 ∷ 0 ∷ []
+  pub measured : map (λ (n : ℕ). refusalOfBytes oldForm (filled 0 11 (0x4F ∷ 0xC8 ∷ 0x4C ∷ 0x0B ∷ n ∷ []))) (0xE8 ∷ 0xEA ∷ []) ≡ 0 ∷ 4 ∷ []
+  -- 5: the first and the last spare bit of a baseline, of a visit and of a death
+  pub spareOfBaseline : map (λ (n : ℕ). refusalOfBytes oldForm (0x2F ∷ 0xC8 ∷ 0x21 ∷ 0x88 ∷ 0x14 ∷ 0 ∷ 0 ∷ 0 ∷ 0 ∷ 0 ∷ n ∷ [])) (0x08 ∷ 0x01 ∷ []) ≡ 5 ∷ 5 ∷ []
+  pub spareOfVisit : map (λ (n : ℕ). refusalOfBytes oldForm (0x4F ∷ 0xC8 ∷ 0x4C ∷ 0x10 ∷ 0 ∷ 0 ∷ 0 ∷ 0 ∷ 0 ∷ 0 ∷ n ∷ [])) (0x10 ∷ 0x01 ∷ []) ≡ 5 ∷ 5 ∷ []
+  pub spareOfDeath : map (refusalOfBytes oldForm) (filled 0 11 (0x8F ∷ 0xC8 ∷ 0x54 ∷ 0x80 ∷ []) ∷ (0x8F ∷ 0xC8 ∷ 0x54 ∷ 0 ∷ 0 ∷ 0 ∷ 0 ∷ 0 ∷ 0 ∷ 0 ∷ 0x01 ∷ []) ∷ []) ≡ 5 ∷ 5 ∷ []
 
 -- kind, year, month, day, assessed, non-target and count of a baseline, and its targets from bit 29 on; the targets of two visits, from bit 28 on
 pub record FieldsByTheirBits : Type 0 where
-  pub head : fieldAt fiveTargetsBytes 0 3 ∷ fieldAt fiveTargetsBytes 3 12 ∷ fieldAt fiveTargetsBytes 15 4 ∷ fieldAt fiveTargetsBytes 19 5 ∷ fieldAt fiveTargetsBytes 24 1 ∷ fieldAt fiveTargetsBytes 25 1 ∷ fieldAt fiveTargetsBytes 26 3 ∷ []
+  pub head : fieldAt newForm fiveTargetsBytes 0 3 ∷ fieldAt newForm fiveTargetsBytes 3 12 ∷ fieldAt newForm fiveTargetsBytes 15 4 ∷ fieldAt newForm fiveTargetsBytes 19 5 ∷ fieldAt newForm fiveTargetsBytes 24 1 ∷ fieldAt newForm fiveTargetsBytes 25 1 ∷ fieldAt newForm fiveTargetsBytes 26 3 ∷ []
       ≡ 1 ∷ 2020 ∷ 1 ∷ 1 ∷ 1 ∷ 1 ∷ 5 ∷ []
-  pub targets : targetsAt fiveTargetsBytes 29 ≡ 1 ∷ 21 ∷ 0 ∷ 32 ∷ 1 ∷ 43 ∷ 0 ∷ 54 ∷ 1 ∷ 65 ∷ []
-  pub measured : targetsAt fourMeasuredBytes 28 ≡ 1 ∷ 11 ∷ 1 ∷ 22 ∷ 0 ∷ 0 ∷ 1 ∷ 44 ∷ 1 ∷ 500 ∷ []
-  pub visit : targetsAt printedVisitBytes 28 ≡ 1 ∷ 24 ∷ 1 ∷ 12 ∷ 0 ∷ 0 ∷ 0 ∷ 0 ∷ 0 ∷ 0 ∷ []
+  pub targets : targetsAt newForm fiveTargetsBytes 29 ≡ 1 ∷ 211 ∷ 0 ∷ 322 ∷ 1 ∷ 433 ∷ 0 ∷ 544 ∷ 1 ∷ 655 ∷ []
+  pub measured : targetsAt newForm fourMeasuredBytes 28 ≡ 1 ∷ 111 ∷ 1 ∷ 222 ∷ 0 ∷ 0 ∷ 1 ∷ 444 ∷ 1 ∷ 5000 ∷ []
+  pub visit : targetsAt newForm printedVisitBytes 28 ≡ 1 ∷ 240 ∷ 1 ∷ 120 ∷ 0 ∷ 0 ∷ 0 ∷ 0 ∷ 0 ∷ 0 ∷ []
 
 -- the fields of a visit, with or without a new lesion, a status that is none and a spare bit that is set
 abbrev pub fieldsOf : Bool → Date → Status → Bool → List Bool → List ℕ → Bool → Bool → VisitFields
@@ -146,14 +177,14 @@ fieldsOf isvisit d status new measured sizes badstatus spare =
     }
 
 pub record FieldsOfVisits : Type 0 where
-  pub printed : visitFieldsOf printedVisitBytes ≡ fieldsOf true (ymd 2020 2 12) S.NN false (true ∷ true ∷ []) (24 ∷ 12 ∷ []) false false
+  pub printed : visitFieldsOf printedVisitBytes ≡ fieldsOf true (ymd 2020 2 12) S.NN false (true ∷ true ∷ []) (240 ∷ 120 ∷ []) false false
   -- a new lesion with status 7, which is none; the last spare bit
-  pub noStatus : visitFieldsOf (eleven (0x4F ∷ 0xC8 ∷ 0x4C ∷ 0xF0 ∷ [])) ≡ fieldsOf true (ymd 2020 2 12) S.NA true [] [] true false
-  pub spareBit : visitFieldsOf (0x4F ∷ 0xC8 ∷ 0x4C ∷ 0x10 ∷ 0 ∷ 0 ∷ 0 ∷ 0 ∷ 0 ∷ 0 ∷ 0x01 ∷ []) ≡ fieldsOf true (ymd 2020 2 12) S.NA true [] [] false true
+  pub noStatus : visitFieldsOf (thirteen (0x4F ∷ 0xC8 ∷ 0x4C ∷ 0xF0 ∷ [])) ≡ fieldsOf true (ymd 2020 2 12) S.NA true [] [] true false
+  pub spareBit : visitFieldsOf (0x4F ∷ 0xC8 ∷ 0x4C ∷ 0x10 ∷ 0 ∷ 0 ∷ 0 ∷ 0 ∷ 0 ∷ 0 ∷ 0 ∷ 0 ∷ 0x01 ∷ []) ≡ fieldsOf true (ymd 2020 2 12) S.NA true [] [] false true
   -- the date of another kind: of a therapy, and of a baseline
   pub therapy : visitFieldsOf therapyBytes ≡ fieldsOf false (ymd 2020 2 20) S.NA false [] [] false false
   pub baseline : visitFieldsOf missingBytes ≡ fieldsOf false (ymd 2020 1 1) S.NA false [] [] false false
-  -- all zero beside no bytes, beside ten, and beside the printed visit with a byte more
+  -- all zero beside no bytes, beside twelve, and beside the printed visit with a byte more
   pub noBytes : visitFieldsOf [] ≡ fieldsOf false (ymd 0 0 0) S.NA false [] [] false false
-  pub tenBytes : visitFieldsOf (filled 255 10 []) ≡ fieldsOf false (ymd 0 0 0) S.NA false [] [] false false
-  pub twelveBytes : visitFieldsOf (filled 0 12 (0x4F ∷ 0xC8 ∷ 0x4C ∷ 0x48 ∷ 0x31 ∷ 0x03 ∷ [])) ≡ fieldsOf false (ymd 0 0 0) S.NA false [] [] false false
+  pub twelveBytes : visitFieldsOf (filled 255 12 []) ≡ fieldsOf false (ymd 0 0 0) S.NA false [] [] false false
+  pub fourteenBytes : visitFieldsOf (filled 0 14 (0x4F ∷ 0xC8 ∷ 0x4C ∷ 0x48 ∷ 0x3C ∷ 0x20 ∷ 0x78 ∷ [])) ≡ fieldsOf false (ymd 0 0 0) S.NA false [] [] false false

@@ -2,14 +2,23 @@
 -- Assumes nothing.
 use Prim.Native.Nat.{ℕ, _+_, _-_, _*_, _/_, _%_, _^_}
 use mathlib.Core.List.{List, [], _∷_}
-use Rattle.codec.specs.Bytes.{recordLength, bytesNumber}
+use Rattle.records.specs.Forms.{Form}
+use Rattle.codec.specs.Bytes.{bytesNumber}
 
--- the field of a width
-abbrev pub fieldAt : List ℕ → ℕ → ℕ → ℕ
-fieldAt s at width = bytesNumber s / 2 ^ (8 * recordLength - (at + width)) % 2 ^ width
+module _ (form : Form) where
+  -- the field of a width
+  abbrev pub fieldAt : List ℕ → ℕ → ℕ → ℕ
+  fieldAt s at width = bytesNumber form s / 2 ^ (8 * form .recordLength - (at + width)) % 2 ^ width
 
--- the fields of the five targets
-abbrev pub targetsAt : List ℕ → ℕ → List ℕ
-targetsAt s at =
-    fieldAt s at 1 ∷ fieldAt s (at + 1) 10 ∷ fieldAt s (at + 11) 1 ∷ fieldAt s (at + 12) 10 ∷ fieldAt s (at + 22) 1 ∷ fieldAt s (at + 23) 10
-    ∷ fieldAt s (at + 33) 1 ∷ fieldAt s (at + 34) 10 ∷ fieldAt s (at + 44) 1 ∷ fieldAt s (at + 45) 10 ∷ []
+  -- the bits of a target
+  abbrev pub targetWidth : ℕ
+  targetWidth = 1 + form .sizeWidth
+
+  -- the fields of the five targets
+  abbrev pub targetsAt : List ℕ → ℕ → List ℕ
+  targetsAt s at =
+      fieldAt s at 1 ∷ fieldAt s (at + 1) (form .sizeWidth)
+      ∷ fieldAt s (at + targetWidth) 1 ∷ fieldAt s (at + (targetWidth + 1)) (form .sizeWidth)
+      ∷ fieldAt s (at + 2 * targetWidth) 1 ∷ fieldAt s (at + (2 * targetWidth + 1)) (form .sizeWidth)
+      ∷ fieldAt s (at + 3 * targetWidth) 1 ∷ fieldAt s (at + (3 * targetWidth + 1)) (form .sizeWidth)
+      ∷ fieldAt s (at + 4 * targetWidth) 1 ∷ fieldAt s (at + (4 * targetWidth + 1)) (form .sizeWidth) ∷ []

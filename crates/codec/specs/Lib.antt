@@ -1,5 +1,6 @@
 pub mod Bytes
 pub mod Reading
+pub mod OldReading
 pub mod Fields
 pub mod Parts
 pub mod Examples

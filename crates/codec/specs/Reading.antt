@@ -16,17 +16,18 @@ use Rattle.records.specs.declared.Entry.the-variants.{Baseline, Visit, Therapy,
 use Rattle.records.specs.declared.Status.{Status}
 use Rattle.records.specs.declared.Status.the-variants.{NA, CR, NN, PD, NE}
 use Rattle.records.specs.declared.Record.{Record}
-use Rattle.codec.specs.Bytes.{recordLength, baselineLayout, visitLayout, spareLayout, bytesNumber}
+use Rattle.records.specs.Forms.{Form, newForm, newUnit}
+use Rattle.codec.specs.Bytes.{baselineLayout, visitLayout, spareLayout, bytesNumber}
 use Rattle.codec.specs.declared.Raw.{Raw}
 use Rattle.codec.specs.declared.VisitFields.{VisitFields}
 use Rattle.codec.specs.declared.ReadAnswer.{ReadAnswer}
-use Rattle.codec.specs.declared.ReadAnswer.the-variants.{Done, NotElevenBytes, NoSuchKind, Refused}
+use Rattle.codec.specs.declared.ReadAnswer.the-variants.{Done, WrongLength, NoSuchKind, Refused}
 use Rattle.codec.specs.declared.ReadResult.{ReadResult}
 
 -- the number of each case in document 01; 0 where no refusal meets
 abbrev pub readNumber : ReadAnswer → ℕ
 readNumber Done = 0
-readNumber NotElevenBytes = 1
+readNumber WrongLength = 1
 readNumber NoSuchKind = 2
 readNumber (Refused own) = ownNumber own
 
@@ -82,63 +83,65 @@ visitFrom f = rawVisit (visitFieldsFrom f)
 abbrev pub spareFrom : Entry → List ℕ → Raw
 spareFrom e f = record { read = withoutTargets e; badstatus = false; spare = ltb 0 (getD f 4 0) }
 
-unfoldable pub baselineIn : ℕ → Raw
-baselineIn n = baselineFrom (unpack baselineLayout n)
-
-unfoldable pub visitFieldsIn : ℕ → VisitFields
-visitFieldsIn n = visitFieldsFrom (unpack visitLayout n)
-
-unfoldable pub visitIn : ℕ → Raw
-visitIn n = visitFrom (unpack visitLayout n)
-
--- kind and date stand at the same place in every layout
-abbrev pub kindIn : ℕ → ℕ
-kindIn n = getD (unpack spareLayout n) 0 0
-
-abbrev pub dateIn : ℕ → Date
-dateIn n = dateFrom (unpack spareLayout n)
-
-unfoldable pub spareIn : Entry → ℕ → Raw
-spareIn e n = spareFrom e (unpack spareLayout n)
-
--- what is read of a kind from 1 to 4
-unfoldable pub rawIn : ℕ → ℕ → Raw
-rawIn kind n =
-    pick (eqb kind 1) (baselineIn n)
-    (pick (eqb kind 2) (visitIn n) (pick (eqb kind 3) (spareIn (Therapy (dateIn n)) n) (spareIn (Death (dateIn n)) n)))
-
-abbrev pub refusalsOfRaw : Raw → List Refusal
-refusalsOfRaw w = refusalsOfRead (w .read) (w .badstatus) (w .spare)
-
 abbrev pub isKind : ℕ → Bool
 isKind kind = both (leb 1 kind) (leb kind 4)
 
--- 2, then 3 to 5
-unfoldable pub refusalsOfRecordNumber : ℕ → List Refusal
-refusalsOfRecordNumber n = 2 when not (isKind (kindIn n)) ∷ refusalsOfRaw (rawIn (kindIn n) n)
-
--- 1, then the others
-unfoldable pub refusalsOfBytes : List ℕ → List Refusal
-refusalsOfBytes s = 1 when not (eqb (length s) recordLength) ∷ refusalsOfRecordNumber (bytesNumber s)
-
-abbrev pub refusalOfBytes : List ℕ → ℕ
-refusalOfBytes s = first (refusalsOfBytes s)
+-- of sizes of which a millimetre has so many units
+abbrev pub refusalsOfRaw : ℕ → Raw → List Refusal
+refusalsOfRaw unit w = refusalsOfRead unit (w .read) (w .badstatus) (w .spare)
 
 -- the one record that stands beside every refusal
 abbrev pub blankRecord : Record
 blankRecord = withoutTargets (Therapy (record { year = 0; month = 0; day = 0 }))
 
-pub record JudgesRead (w : Raw) (x : ReadResult) : Type 0 where
-  pub answer : readNumber (x .answer) ≡ first (refusalsOfRaw w)
-  pub found : x .found ≡ pick (eqb (first (refusalsOfRaw w)) 0) (w .read) blankRecord
+module _ (form : Form) where
+  unfoldable pub baselineIn : ℕ → Raw
+  baselineIn n = baselineFrom (unpack (baselineLayout form) n)
 
--- the record, or the blank one
-unfoldable pub recordOfBytes : List ℕ → Record
-recordOfBytes s = pick (eqb (refusalOfBytes s) 0) (rawIn (kindIn (bytesNumber s)) (bytesNumber s) .read) blankRecord
+  unfoldable pub visitFieldsIn : ℕ → VisitFields
+  visitFieldsIn n = visitFieldsFrom (unpack (visitLayout form) n)
+
+  unfoldable pub visitIn : ℕ → Raw
+  visitIn n = visitFrom (unpack (visitLayout form) n)
+
+  -- kind and date stand at the same place in every layout
+  abbrev pub kindIn : ℕ → ℕ
+  kindIn n = getD (unpack (spareLayout form) n) 0 0
+
+  abbrev pub dateIn : ℕ → Date
+  dateIn n = dateFrom (unpack (spareLayout form) n)
+
+  unfoldable pub spareIn : Entry → ℕ → Raw
+  spareIn e n = spareFrom e (unpack (spareLayout form) n)
+
+  -- what is read of a kind from 1 to 4
+  unfoldable pub rawIn : ℕ → ℕ → Raw
+  rawIn kind n =
+      pick (eqb kind 1) (baselineIn n)
+      (pick (eqb kind 2) (visitIn n) (pick (eqb kind 3) (spareIn (Therapy (dateIn n)) n) (spareIn (Death (dateIn n)) n)))
+
+  -- 2, then 3 to 5
+  unfoldable pub refusalsOfRecordNumber : ℕ → List Refusal
+  refusalsOfRecordNumber n = 2 when not (isKind (kindIn n)) ∷ refusalsOfRaw (form .unit) (rawIn (kindIn n) n)
+
+  -- 1, then the others
+  unfoldable pub refusalsOfBytes : List ℕ → List Refusal
+  refusalsOfBytes s = 1 when not (eqb (length s) (form .recordLength)) ∷ refusalsOfRecordNumber (bytesNumber form s)
+
+  abbrev pub refusalOfBytes : List ℕ → ℕ
+  refusalOfBytes s = first (refusalsOfBytes s)
+
+  -- the record, or the blank one
+  unfoldable pub recordOfBytes : List ℕ → Record
+  recordOfBytes s = pick (eqb (refusalOfBytes s) 0) (rawIn (kindIn (bytesNumber form s)) (bytesNumber form s) .read) blankRecord
+
+pub record JudgesRead (w : Raw) (x : ReadResult) : Type 0 where
+  pub answer : readNumber (x .answer) ≡ first (refusalsOfRaw newUnit w)
+  pub found : x .found ≡ pick (eqb (first (refusalsOfRaw newUnit w)) 0) (w .read) blankRecord
 
 pub record Reads (s : List ℕ) (x : ReadResult) : Type 0 where
-  pub answer : readNumber (x .answer) ≡ refusalOfBytes s
-  pub found : x .found ≡ recordOfBytes s
+  pub answer : readNumber (x .answer) ≡ refusalOfBytes newForm s
+  pub found : x .found ≡ recordOfBytes newForm s
   -- the type `u8` gives it
   pub octets : AreBytes s
 
@@ -152,9 +155,9 @@ blankVisit = record {
   spare = false;
 }
 
--- 11 bytes as a visit has them, not judged; beside any other number of bytes one fixed blank
+-- the bytes of a record as a visit has them, not judged; beside any other number of bytes one fixed blank
 unfoldable pub visitFieldsOf : List ℕ → VisitFields
-visitFieldsOf s = pick (eqb (length s) recordLength) (visitFieldsIn (bytesNumber s)) blankVisit
+visitFieldsOf s = pick (eqb (length s) (newForm .recordLength)) (visitFieldsIn newForm (bytesNumber newForm s)) blankVisit
 
 pub record ReadsVisit (s : List ℕ) (x : VisitFields) : Type 0 where
   pub fields : x ≡ visitFieldsOf s

@@ -15,6 +15,7 @@ ghost use lib.ListN.{length};
 ghost use Rattle.codec.specs.Bytes.{recordLength, bytesNumber};
 ghost use Rattle.codec.specs.Fields.{fieldAt, targetsAt};
 ghost use Rattle.codec.specs.Reading.{isOne, dateIn, marksFrom, sizesFrom, statusFrom, withoutTargets, blankRecord, baselineIn, visitFieldsIn, visitIn, spareIn, rawIn};
+ghost use Rattle.records.specs.Forms.{newForm};
 
 // The bit at which each field starts; kind is at 0.
 const YEAR: u32 = 3;
@@ -31,7 +32,7 @@ const COUNT: u32 = 26;
 
 const BASELINE_TARGETS: u32 = 29;
 
-const BASELINE_SPARE: u32 = 84;
+const BASELINE_SPARE: u32 = 99;
 
 const STATUS: u32 = 24;
 
@@ -39,11 +40,11 @@ const NEW_LESION: u32 = 27;
 
 const VISIT_TARGETS: u32 = 28;
 
-const VISIT_SPARE: u32 = 83;
+const VISIT_SPARE: u32 = 98;
 
 fn date_in(s: &[u8]) -> Date
     requires { ⌜ length (now s) ≡ recordLength ⌝ }
-    ensures { λ r. ⌜ r ≡ dateIn (bytesNumber (now (s .entry))) ⌝ }
+    ensures { λ r. ⌜ r ≡ dateIn newForm (bytesNumber newForm (now (s .entry))) ⌝ }
 {
     Date {
         year: field(s, YEAR, 12),
@@ -54,34 +55,34 @@ fn date_in(s: &[u8]) -> Date
 
 fn bit_at(s: &[u8], at: u32) -> bool
     requires { ⌜ (length (now s) ≡ recordLength) × (at + 1 ≤ 8 * recordLength) ⌝ }
-    ensures { λ r. ⌜ r ≡ isOne (fieldAt (now (s .entry)) at 1) ⌝ }
+    ensures { λ r. ⌜ r ≡ isOne (fieldAt newForm (now (s .entry)) at 1) ⌝ }
 {
     field(s, at, 1) == 1
 }
 
 fn marks_at(s: &[u8], at: u32) -> [bool; 5]
-    requires { ⌜ (length (now s) ≡ recordLength) × (at + 55 ≤ 8 * recordLength) ⌝ }
-    ensures { λ r. ⌜ r ≡ marksFrom (targetsAt (now (s .entry)) at) ⌝ }
+    requires { ⌜ (length (now s) ≡ recordLength) × (at + 70 ≤ 8 * recordLength) ⌝ }
+    ensures { λ r. ⌜ r ≡ marksFrom (targetsAt newForm (now (s .entry)) at) ⌝ }
 {
     [
         bit_at(s, at),
-        bit_at(s, at + 11),
-        bit_at(s, at + 22),
-        bit_at(s, at + 33),
-        bit_at(s, at + 44),
+        bit_at(s, at + 14),
+        bit_at(s, at + 28),
+        bit_at(s, at + 42),
+        bit_at(s, at + 56),
     ]
 }
 
 fn sizes_at(s: &[u8], at: u32) -> [u16; 5]
-    requires { ⌜ (length (now s) ≡ recordLength) × (at + 55 ≤ 8 * recordLength) ⌝ }
-    ensures { λ r. ⌜ r ≡ sizesFrom (targetsAt (now (s .entry)) at) ⌝ }
+    requires { ⌜ (length (now s) ≡ recordLength) × (at + 70 ≤ 8 * recordLength) ⌝ }
+    ensures { λ r. ⌜ r ≡ sizesFrom (targetsAt newForm (now (s .entry)) at) ⌝ }
 {
     [
-        field(s, at + 1, 10),
-        field(s, at + 12, 10),
-        field(s, at + 23, 10),
-        field(s, at + 34, 10),
-        field(s, at + 45, 10),
+        field(s, at + 1, 13),
+        field(s, at + 15, 13),
+        field(s, at + 29, 13),
+        field(s, at + 43, 13),
+        field(s, at + 57, 13),
     ]
 }
 
@@ -99,7 +100,7 @@ fn status_from(n: u16) -> Status
 
 fn baseline_in(s: &[u8]) -> Raw
     requires { ⌜ length (now s) ≡ recordLength ⌝ }
-    ensures { λ r. ⌜ r ≡ baselineIn (bytesNumber (now (s .entry))) ⌝ }
+    ensures { λ r. ⌜ r ≡ baselineIn newForm (bytesNumber newForm (now (s .entry))) ⌝ }
 {
     let date = date_in(s);
     let entry = Entry::Baseline(BaselineEntry {
@@ -118,13 +119,13 @@ fn baseline_in(s: &[u8]) -> Raw
     Raw {
         read: read,
         badstatus: false,
-        spare: 0 < field(s, BASELINE_SPARE, 4),
+        spare: 0 < field(s, BASELINE_SPARE, 5),
     }
 }
 
 pub(crate) fn visit_fields_in(s: &[u8]) -> VisitFields
     requires { ⌜ length (now s) ≡ recordLength ⌝ }
-    ensures { λ r. ⌜ r ≡ visitFieldsIn (bytesNumber (now (s .entry))) ⌝ }
+    ensures { λ r. ⌜ r ≡ visitFieldsIn newForm (bytesNumber newForm (now (s .entry))) ⌝ }
 {
     let kind = field(s, 0, 3);
     let number = field(s, STATUS, 3);
@@ -133,7 +134,7 @@ pub(crate) fn visit_fields_in(s: &[u8]) -> VisitFields
     let newlesion = bit_at(s, NEW_LESION);
     let measured = marks_at(s, VISIT_TARGETS);
     let sizes = sizes_at(s, VISIT_TARGETS);
-    let spare = field(s, VISIT_SPARE, 5);
+    let spare = field(s, VISIT_SPARE, 6);
     let entry = VisitEntry {
         date: date,
         status: status,
@@ -151,7 +152,7 @@ pub(crate) fn visit_fields_in(s: &[u8]) -> VisitFields
 
 fn visit_in(s: &[u8]) -> Raw
     requires { ⌜ length (now s) ≡ recordLength ⌝ }
-    ensures { λ r. ⌜ r ≡ visitIn (bytesNumber (now (s .entry))) ⌝ }
+    ensures { λ r. ⌜ r ≡ visitIn newForm (bytesNumber newForm (now (s .entry))) ⌝ }
 {
     let v = visit_fields_in(s);
     let entry = v.entry;
@@ -171,9 +172,11 @@ fn visit_in(s: &[u8]) -> Raw
 
 fn bit_set_behind_date(s: &[u8]) -> bool
     requires { ⌜ length (now s) ≡ recordLength ⌝ }
-    ensures { λ r. ⌜ r ≡ ltb 0 (bytesNumber (now (s .entry)) % 2 ^ 64) ⌝ }
+    ensures { λ r. ⌜ r ≡ ltb 0 (bytesNumber newForm (now (s .entry)) % 2 ^ 80) ⌝ }
 {
-    0 < field(s, 24, 16) || (0 < field(s, 40, 16) || (0 < field(s, 56, 16) || 0 < field(s, 72, 16)))
+    0 < field(s, 24, 16)
+        || (0 < field(s, 40, 16)
+            || (0 < field(s, 56, 16) || (0 < field(s, 72, 16) || 0 < field(s, 88, 16))))
 }
 
 fn record_without_targets(entry: Entry) -> Record
@@ -198,7 +201,7 @@ pub(crate) fn blank_record() -> Record
 
 fn spare_in(s: &[u8], entry: Entry) -> Raw
     requires { ⌜ length (now s) ≡ recordLength ⌝ }
-    ensures { λ r. ⌜ r ≡ spareIn entry (bytesNumber (now (s .entry))) ⌝ }
+    ensures { λ r. ⌜ r ≡ spareIn newForm entry (bytesNumber newForm (now (s .entry))) ⌝ }
 {
     let read = record_without_targets(entry);
     let spare = bit_set_behind_date(s);
@@ -211,7 +214,7 @@ fn spare_in(s: &[u8], entry: Entry) -> Raw
 
 pub(crate) fn raw_in(kind: u16, s: &[u8]) -> Raw
     requires { ⌜ length (now s) ≡ recordLength ⌝ }
-    ensures { λ r. ⌜ r ≡ rawIn kind (bytesNumber (now (s .entry))) ⌝ }
+    ensures { λ r. ⌜ r ≡ rawIn newForm kind (bytesNumber newForm (now (s .entry))) ⌝ }
 {
     if kind == 1 {
         return baseline_in(s);

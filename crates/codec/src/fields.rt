@@ -3,6 +3,7 @@ ghost use mathlib.Core.Path.{_≡_};
 ghost use Prim.Native.Nat.{_+_, _*_, _/_, _%_, _^_, _≤_, _<_};
 ghost use lib.ListN.{length};
 ghost use Rattle.laws.specs.Layout.{before};
+ghost use Rattle.records.specs.Forms.{newForm};
 ghost use Rattle.codec.specs.Bytes.{recordLength};
 ghost use Rattle.codec.specs.Fields.{fieldAt};
 
@@ -25,7 +26,7 @@ fn bits_of(number: u32, shift: u32, width: u32) -> u16
 // The field of a width that starts at a bit, bit 0 being the most significant.
 pub(crate) fn field(s: &[u8], at: u32, width: u32) -> u16
     requires { ⌜ (length (now s) ≡ recordLength) × (at + width ≤ 8 * recordLength) × (width ≤ 16) ⌝ }
-    ensures { λ r. ⌜ r ≡ fieldAt (now (s .entry)) at width ⌝ }
+    ensures { λ r. ⌜ r ≡ fieldAt newForm (now (s .entry)) at width ⌝ }
 {
     let past = at + width;
     let end = (past + 7) / 8;

@@ -1,4 +1,4 @@
-// A record as 11 bytes, read from any byte string, and a file cut into such bytes (document 01, "Where a call stops", 1 to 5 and 13, and "Change in size,
+// A record as 13 bytes, read from any byte string, and a file cut into such bytes (document 01, "Where a call stops", 1 to 5 and 13, and "Change in size,
 // file and listing").
 use dates::Date;
 use records::CheckAnswer;
@@ -9,6 +9,7 @@ use records::VisitEntry;
 ghost use mathlib.Core.Path.{_≡_};
 ghost use Rattle.laws.specs.Refusals.{first};
 ghost use Rattle.records.specs.Refusals.{checkNumber};
+ghost use Rattle.records.specs.Forms.{newUnit};
 ghost use Rattle.codec.specs.Reading.{isKind, refusalsOfRaw, blankRecord, JudgesRead, Reads, blankVisit, ReadsVisit};
 ghost use Rattle.codec.specs.declared.Raw.{Raw};
 
@@ -21,7 +22,7 @@ pub use parts::bad_length;
 
 pub enum ReadAnswer {
     Done,
-    NotElevenBytes,
+    WrongLength,
     NoSuchKind,
     Refused(OwnRefusal),
 }
@@ -54,7 +55,7 @@ pub(crate) struct Raw {
     pub(crate) spare: bool,
 }
 
-pub const RECORD_LENGTH: usize = 11;
+pub const RECORD_LENGTH: usize = 13;
 
 fn refused(answer: ReadAnswer) -> ReadResult
     ensures { λ x. ⌜ (x .answer ≡ answer) × (x .found ≡ blankRecord) ⌝ }
@@ -68,7 +69,7 @@ fn refused(answer: ReadAnswer) -> ReadResult
 
 // A record that was read, by the answer of its own refusals.
 fn answered(answer: CheckAnswer, found: Record) -> ReadResult
-    ensures { λ x. ⌜ ((w : Raw) → checkNumber answer ≡ first (refusalsOfRaw w) → found ≡ w .read → JudgesRead w x) ⌝ }
+    ensures { λ x. ⌜ ((w : Raw) → checkNumber answer ≡ first (refusalsOfRaw newUnit w) → found ≡ w .read → JudgesRead w x) ⌝ }
 {
     match answer {
         CheckAnswer::Passed => ReadResult {
@@ -98,7 +99,7 @@ pub fn read(s: &[u8]) -> ReadResult
     ensures { λ x. ⌜ Reads (now (s .entry)) x ⌝ }
 {
     if s.len() != RECORD_LENGTH {
-        return refused(ReadAnswer::NotElevenBytes);
+        return refused(ReadAnswer::WrongLength);
     }
     let kind = fields::field(s, 0, 3);
     if !is_kind(kind) {
@@ -130,7 +131,7 @@ fn blank_visit() -> VisitFields
     }
 }
 
-// For whoever judges a visit with what is known of its subject; a blank beside any other number of bytes than 11.
+// For whoever judges a visit with what is known of its subject; a blank beside any other number of bytes than a record has.
 pub fn visit_fields(s: &[u8]) -> VisitFields
     ensures { λ x. ⌜ ReadsVisit (now (s .entry)) x ⌝ }
 {

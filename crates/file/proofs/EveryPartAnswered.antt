@@ -14,6 +14,7 @@ use Rattle.laws.proofs.FirstRefusal.{among}
 use Rattle.laws.specs.Layout.{AreBytes}
 use Rattle.records.specs.declared.OwnRefusal.the-variants as W
 use Rattle.records.specs.Entries.{Five}
+use Rattle.records.specs.Forms.{newForm}
 use Rattle.codec.specs.declared.ReadAnswer.the-variants as R
 use Rattle.codec.specs.declared.ReadResult.{ReadResult}
 use Rattle.codec.specs.Bytes.{recordLength}
@@ -30,16 +31,16 @@ use Rattle.file.specs.FileAsCalls.{AddsParts, none, adds, opens, PartsCa
 use Rattle.codec.proofs.PartsJoined.{one-part}
 
 -- each number that refuses bytes, and 0, is that of some case of reading's answer
-some-bytes : (s : List ℕ) → Some readNumber (refusalOfBytes s)
+some-bytes : (s : List ℕ) → Some readNumber (refusalOfBytes newForm s)
 some-bytes s =
-    among (Some readNumber) (refusalsOfBytes s) (R.Done, refl)
-    (each-of-bytes (Some readNumber) (R.NotElevenBytes, refl) (R.NoSuchKind, refl) (R.Refused W.NoSuchDate, refl) (R.Refused W.OutsideLimits, refl) (R.Refused W.NotZero, refl) s)
+    among (Some readNumber) (refusalsOfBytes newForm s) (R.Done, refl)
+    (each-of-bytes newForm (Some readNumber) (R.WrongLength, refl) (R.NoSuchKind, refl) (R.Refused W.NoSuchDate, refl) (R.Refused W.OutsideLimits, refl) (R.Refused W.NotZero, refl) s)
 
 -- reading has an answer
 some-read : (part : List ℕ) → AreBytes part → (x : ReadResult) × Reads part x
 some-read part octets =
     let some = some-bytes part in
-    (record { answer = some .0; found = recordOfBytes part }, record { answer = some .1; found = refl; octets = octets })
+    (record { answer = some .0; found = recordOfBytes newForm part }, record { answer = some .1; found = refl; octets = octets })
 
 -- what is taken of bytes, and what is left, are bytes
 take-bytes : (s : List ℕ) → AreBytes s → (n : ℕ) → AreBytes (take n s)
@@ -59,7 +60,7 @@ record Later (u : Subject) (ps : List (List ℕ)) : Type 0 where
   last : Subject
   calls : AddsParts u ps numbers responses last
 
-later : (u : Subject) (n : ℕ) (s : List ℕ) → AreBytes s → Later u (parts n s)
+later : (u : Subject) (n : ℕ) (s : List ℕ) → AreBytes s → Later u (parts newForm n s)
 later u zero s h = record { numbers = _; responses = _; last = u; calls = none }
 later u (suc n) s h =
     let read = some-read (take recordLength s) (take-bytes s h recordLength) in
@@ -69,14 +70,14 @@ later u (suc n) s h =
     record { numbers = _; responses = _; last = rest .last; calls = adds {a = now .0} (read .1) (now .1) (rest .calls) }
 
 -- the first part opens
-from-first : (n : ℕ) (s : List ℕ) → AreBytes s → PartsCalled (parts (suc n) s)
+from-first : (n : ℕ) (s : List ℕ) → AreBytes s → PartsCalled (parts newForm (suc n) s)
 from-first n s h =
     let part = take recordLength s in
     let read = some-read part (take-bytes s h recordLength) in
-    let opening = some-opening (read .0 .found) (subst Five (sym (read .1 .found)) (found-five part)) in
+    let opening = some-opening (read .0 .found) (subst Five (sym (read .1 .found)) (found-five newForm part)) in
     let rest = later (opening .1) n (drop recordLength s) (drop-bytes s h recordLength) in
     let reading = readable (rest .last) in
     record { numbers = _; responses = _; left = rest .last; calls = opens (read .1) (opening .2) (rest .calls); reading = reading .0; reads = reading .1 }
 
-pub called : (s : List ℕ) → AreBytes s → badLength (length s) ≡ false → PartsCalled (partsOf s)
-called s h fair = subst (λ (n : ℕ). PartsCalled (parts n s)) (sym (one-part s fair)) (from-first (length s / recordLength - 1) s h)
+pub called : (s : List ℕ) → AreBytes s → badLength newForm (length s) ≡ false → PartsCalled (partsOf newForm s)
+called s h fair = subst (λ (n : ℕ). PartsCalled (parts newForm n s)) (sym (one-part newForm s fair)) (from-first (length s / recordLength - 1) s h)

@@ -18,6 +18,7 @@ use Rattle.records.specs.declared.Entry.{Entry}
 use Rattle.records.specs.declared.Entry.the-variants as E
 use Rattle.records.specs.declared.Record.{Record}
 use Rattle.records.proofs.NoOwnRefusal.{none-after-own}
+use Rattle.records.specs.Forms.{newForm, newUnit}
 use Rattle.codec.specs.Reading.{refusalsOfBytes, refusalOfBytes, recordOfBytes}
 use Rattle.codec.proofs.NoRefusalOfBytes.{bytes-numbered, after-reading}
 use Rattle.codec.proofs.FiveMarksAndSizes.{found-five}
@@ -57,11 +58,11 @@ pub record Taken (rs : List Record) (s : Subject) : Type 0 where
   pub later : List Record
   pub opens : rs ≡ opened-with entry marks sizes ∷ later
   pub held : Held entry marks sizes later s
-  pub passes : fieldsPass (baseline (base entry marks sizes)) ≡ true
+  pub passes : fieldsPass newUnit (baseline (base entry marks sizes)) ≡ true
 
 -- one record more that adding accepts
 pub taken-more : {rs : List Record} {s t : Subject} {a : AddAnswer} (h : Taken rs s) (r : Record) → Adds s r a t →
-    eqb (refusalOfAdding (opened-with (h .entry) (h .marks) (h .sizes) ∷ h .later) r) 0 ≡ true → Taken (rs ++ (r ∷ [])) t
+    eqb (refusalOfAdding newUnit (opened-with (h .entry) (h .marks) (h .sizes) ∷ h .later) r) 0 ≡ true → Taken (rs ++ (r ∷ [])) t
 taken-more h r added accepts =
     record {
       entry = h .entry;
@@ -74,13 +75,13 @@ taken-more h r added accepts =
     }
 
 -- no refusal: reading refuses nothing, and none after it meets
-pub none-read : (part : List ℕ) (others : List Refusal) → first (refusalsOfBytes part ++ others) ≡ 0 → (refusalOfBytes part ≡ 0) × (first others ≡ 0)
-none-read part others e = none-of-both (refusalsOfBytes part) others (bytes-numbered part) .0 e
+pub none-read : (part : List ℕ) (others : List Refusal) → first (refusalsOfBytes newForm part ++ others) ≡ 0 → (refusalOfBytes newForm part ≡ 0) × (first others ≡ 0)
+none-read part others e = none-of-both (refusalsOfBytes newForm part) others (bytes-numbered newForm part) .0 e
 
 -- ---- the first record
 
 -- alone it has no line
-pub alone : (d : Date) (e : Entry) (marks : List Bool) (sizes : List ℕ) → linesInOrder (entryOnStudyDay d e marks sizes ∷ []) ≡ []
+pub alone : (d : Date) (e : Entry) (marks : List Bool) (sizes : List ℕ) → linesInOrder (entryOnStudyDay newUnit d e marks sizes ∷ []) ≡ []
 alone d (E.Baseline b) marks sizes = refl
 alone d (E.Visit v) marks sizes = refl
 alone d (E.Therapy x) marks sizes = refl
@@ -98,62 +99,62 @@ opened-taken (E.Baseline x) marks sizes w z n =
       later = [];
       opens = refl;
       held = record { same = w .made ∙ made ∙ opening-follows x marks sizes; inside = calls-in-range .opened w z; lawfully = refl };
-      passes = own-passed (x .date) (opened-with x marks sizes) (w .five) (none-after-own (opened-with x marks sizes) _ .0 (sym (w .answer) ∙ z) .0);
+      passes = own-passed (x .date) (opened-with x marks sizes) (w .five) (none-after-own newUnit (opened-with x marks sizes) _ .0 (sym (w .answer) ∙ z) .0);
     }
 opened-taken (E.Visit v) marks sizes w z n = absurd (let f : ⊥ = omega arith in f)
 opened-taken (E.Therapy d) marks sizes w z n = absurd (let f : ⊥ = omega arith in f)
 opened-taken (E.Death d) marks sizes w z n = absurd (let f : ⊥ = omega arith in f)
 
-pub first-taken : (part : List ℕ) (a : OpenAnswer) (s : Subject) → OpensBytes part a s → openNumber a ≡ 0 → Taken (recordOfBytes part ∷ []) s
+pub first-taken : (part : List ℕ) (a : OpenAnswer) (s : Subject) → OpensBytes part a s → openNumber a ≡ 0 → Taken (recordOfBytes newForm part ∷ []) s
 unfolding refusalsOfOpening
 first-taken part a s w z =
-    let r = recordOfBytes part in
-    let none = none-read part (refusalsOfOpening r) (sym (w .answer) ∙ z) .1 in
-    let opened : Opens r N.Done s = record { answer = sym none; made = w .made; five = found-five part } in
+    let r = recordOfBytes newForm part in
+    let none = none-read part (refusalsOfOpening newUnit r) (sym (w .answer) ∙ z) .1 in
+    let opened : Opens r N.Done s = record { answer = sym none; made = w .made; five = found-five newForm part } in
     opened-taken (r .entry) (r .marks) (r .sizes) opened refl
-    (none-after-own r _ .0 none .1)
+    (none-after-own newUnit r _ .0 none .1)
 
 -- ---- a later record
 
 module _ {rs : List Record} {s t : Subject} {a : AddAnswer} (h : Taken rs s) (r : Record) (w : Adds s r a t) where
-  pub adding : addNumber a ≡ refusalOfAdding rs r
-  adding = number (h .entry) (h .marks) (h .sizes) (h .later) r (h .held) w ∙ ap (λ (l : List Record). refusalOfAdding l r) (sym (h .opens))
+  pub adding : addNumber a ≡ refusalOfAdding newUnit rs r
+  adding = number (h .entry) (h .marks) (h .sizes) (h .later) r (h .held) w ∙ ap (λ (l : List Record). refusalOfAdding newUnit l r) (sym (h .opens))
 
-  pub accepts : addNumber a ≡ 0 → eqb (refusalOfAdding (opened-with (h .entry) (h .marks) (h .sizes) ∷ h .later) r) 0 ≡ true
+  pub accepts : addNumber a ≡ 0 → eqb (refusalOfAdding newUnit (opened-with (h .entry) (h .marks) (h .sizes) ∷ h .later) r) 0 ≡ true
   accepts z = eq-eqb _ 0 (sym (number (h .entry) (h .marks) (h .sizes) (h .later) r (h .held) w) ∙ z)
 
   pub more : addNumber a ≡ 0 → Taken (rs ++ (r ∷ [])) t
   more z = taken-more h r w (accepts z)
 
   -- the lines of the records with one more are those before it and the responses answered
-  pub lines-more : addNumber a ≡ 0 → linesInOrder (onStudyDays (rs ++ (r ∷ []))) ≡ linesInOrder (onStudyDays rs) ++ addResponses a
+  pub lines-more : addNumber a ≡ 0 → linesInOrder (onStudyDays newUnit (rs ++ (r ∷ []))) ≡ linesInOrder (onStudyDays newUnit rs) ++ addResponses a
   lines-more z =
       let b = base (h .entry) (h .marks) (h .sizes) in
       let p = past (h .entry) (h .marks) (h .sizes) (h .later) in
       let next = on-day (h .entry) (h .marks) (h .sizes) r in
       let answered : addResponses a ≡ linesOfRecord b p next = responses (h .entry) (h .marks) (h .sizes) (h .later) r (h .held) w ∙ rw (accepts z) in
-      ap (λ (l : List Record). linesInOrder (onStudyDays (l ++ (r ∷ [])))) (h .opens)
+      ap (λ (l : List Record). linesInOrder (onStudyDays newUnit (l ++ (r ∷ [])))) (h .opens)
       ∙ ap (visitLines b) (past-one-more (h .entry) (h .marks) (h .sizes) (h .later) r)
       ∙ ap (λ (l : List VisitLine). visitLines b p ++ l) (sym answered)
-      ∙ ap (λ (l : List Record). linesInOrder (onStudyDays l) ++ addResponses a) (sym (h .opens))
+      ∙ ap (λ (l : List Record). linesInOrder (onStudyDays newUnit l) ++ addResponses a) (sym (h .opens))
 
 module _ {rs : List Record} {s t : Subject} {part : List ℕ} {a : AddAnswer} (h : Taken rs s) (w : AddsBytes s part a t) where
   abbrev r : Record
-  r = recordOfBytes part
+  r = recordOfBytes newForm part
 
-  read-then : addNumber a ≡ first (refusalsOfBytes part ++ refusalsOfAdding rs r)
-  read-then = go (eqb (refusalOfBytes part) 0) refl ∙ sym (after-reading part (refusalsOfAdding rs r))
+  read-then : addNumber a ≡ first (refusalsOfBytes newForm part ++ refusalsOfAdding newUnit rs r)
+  read-then = go (eqb (refusalOfBytes newForm part) 0) refl ∙ sym (after-reading newForm part (refusalsOfAdding newUnit rs r))
     where
-      go : (b : Bool) → eqb (refusalOfBytes part) 0 ≡ b → addNumber a ≡ pick b (refusalOfAdding rs r) (refusalOfBytes part)
-      go true q = adding h r (calls-in-range .fromBytes w (eqb-true (refusalOfBytes part) 0 q))
-      go false q = calls-in-range .notFromBytes w (h .held .inside) (eqb-false (refusalOfBytes part) 0 q) .0
+      go : (b : Bool) → eqb (refusalOfBytes newForm part) 0 ≡ b → addNumber a ≡ pick b (refusalOfAdding newUnit rs r) (refusalOfBytes newForm part)
+      go true q = adding h r (calls-in-range .fromBytes w (eqb-true (refusalOfBytes newForm part) 0 q))
+      go false q = calls-in-range .notFromBytes w (h .held .inside) (eqb-false (refusalOfBytes newForm part) 0 q) .0
 
-  pub later-number : addNumber a ≡ refusalOfPart rs part
+  pub later-number : addNumber a ≡ refusalOfPart newForm rs part
   later-number = read-then ∙ rw (h .opens)
 
   -- done, so that the bytes were read
   pub later-added : addNumber a ≡ 0 → Adds s r a t
-  later-added z = calls-in-range .fromBytes w (none-read part (refusalsOfAdding rs r) (sym read-then ∙ z) .0)
+  later-added z = calls-in-range .fromBytes w (none-read part (refusalsOfAdding newUnit rs r) (sym read-then ∙ z) .0)
 
 -- ---- behind the last record
 
@@ -182,21 +183,21 @@ module _ {rs : List Record} {s : Subject} (t : Taken rs s) (last : ℕ) where
   unfolding summary countingOf
   first-held = day-of-maybe (firstResponse (countingVisits (course b p)))
 
-  verdict-held : verdictIn held ≡ verdictOn (onStudyDays (opened-with (t .entry) (t .marks) (t .sizes) ∷ t .later)) last
+  verdict-held : verdictIn held ≡ verdictOn (onStudyDays newUnit (opened-with (t .entry) (t .marks) (t .sizes) ∷ t .later)) last
   verdict-held =
       λ i.
       unlessRefused (14 when startsLate (duration-held (t .entry .date) b p i) (first-held i) (pfs-held (t .entry .date) b p i) ∷ []) last
       (accepted (outcome-held (t .entry .date) b p i))
 
-  verdict-taken : verdictIn s ≡ verdictOn (onStudyDays rs) last
-  verdict-taken = ap verdictIn (t .held .same) ∙ verdict-held ∙ ap (λ (l : List Record). verdictOn (onStudyDays l) last) (sym (t .opens))
+  verdict-taken : verdictIn s ≡ verdictOn (onStudyDays newUnit rs) last
+  verdict-taken = ap verdictIn (t .held .same) ∙ verdict-held ∙ ap (λ (l : List Record). verdictOn (onStudyDays newUnit l) last) (sym (t .opens))
 
-  pub read-verdict : {q : OutcomeAnswer} → ReadsOutcome s q → EndsBy (verdictOn (onStudyDays rs) last) last q
+  pub read-verdict : {q : OutcomeAnswer} → ReadsOutcome s q → EndsBy (verdictOn (onStudyDays newUnit rs) last) last q
   read-verdict {q} w = rw (← verdict-taken) (go (startsLate (durationHeld s) (dayValue (s .followup .counting .firstresponse)) (pfsHeld s)))
     where
       go : (late : Bool) → EndsBy (unlessRefused (14 when late ∷ []) last (accepted (outcomeOf s))) last q
       go true = inl refl
       go false = inr (outcomeOf s, w .answer ∙ reading-in-range s (t .held .inside), refl)
 
-  pub ending : (a : FileAnswer) → EndsFile s last a → fileValues a ≡ verdictOn (onStudyDays rs) last
+  pub ending : (a : FileAnswer) → EndsFile s last a → fileValues a ≡ verdictOn (onStudyDays newUnit rs) last
   ending a w = w .answer ∙ inside ∙ verdict-taken

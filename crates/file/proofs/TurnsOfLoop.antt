@@ -11,6 +11,7 @@ use lib.Dec.{eqb}
 use borrow.Author.Tests.{eq-eqb, ne-eqb}
 use lib.ListN.{length, take}
 use Rattle.records.specs.declared.Record.{Record}
+use Rattle.records.specs.Forms.{newForm}
 use Rattle.codec.specs.Bytes.{recordLength}
 use Rattle.codec.specs.Reading.{recordOfBytes}
 use Rattle.subject.specs.declared.Subject.{Subject}
@@ -28,74 +29,74 @@ use Rattle.file.proofs.FileFollowsRecords.{Taken, first-taken, more, la
 
 -- the parts from index k on
 abbrev pub from : List ℕ → ℕ → List (List ℕ)
-from l k = partsFrom l (length l / recordLength) k
+from l k = partsFrom newForm l (length l / recordLength) k
 
 -- the records before index k are taken, and the verdict of the file is that of the rest behind them; with the rest they are all the file's records
 pub record Standing (l : List ℕ) (s : Subject) (k : ℕ) : Type 0 where
   pub before : List Record
   pub taken : Taken before s
-  pub rest : verdictOf l ≡ verdictFrom before k (from l k)
-  pub all : before ++ map recordOfBytes (from l k) ≡ map recordOfBytes (partsOf l)
+  pub rest : verdictOf newForm l ≡ verdictFrom newForm before k (from l k)
+  pub all : before ++ map (recordOfBytes newForm) (from l k) ≡ map (recordOfBytes newForm) (partsOf newForm l)
 
-pub bad : (l : List ℕ) (a : FileAnswer) → badLength (length l) ≡ true → fileValues a ≡ refused 13 0 → JudgesFile l a
+pub bad : (l : List ℕ) (a : FileAnswer) → badLength newForm (length l) ≡ true → fileValues a ≡ refused 13 0 → JudgesFile l a
 unfolding verdictOf
 bad l a h e = record { answer = e ∙ rw h }
 
-module _ (l : List ℕ) (fair : badLength (length l) ≡ false) where
-  pub all-parts : verdictOf l ≡ verdictFrom [] 0 (take recordLength l ∷ from l 1)
+module _ (l : List ℕ) (fair : badLength newForm (length l) ≡ false) where
+  pub all-parts : verdictOf newForm l ≡ verdictFrom newForm [] 0 (take recordLength l ∷ from l 1)
   unfolding verdictOf
-  all-parts = rw fair (ap (λ (n : ℕ). verdictFrom [] 0 (parts n l)) (one-part l fair))
+  all-parts = rw fair (ap (λ (n : ℕ). verdictFrom newForm [] 0 (parts newForm n l)) (one-part newForm l fair))
 
   -- opening the first part with a number
   module _ (x : OpenAnswer) (s : Subject) (n : ℕ) (w : OpensBytes (take recordLength l) x s) (nq : n ≡ openNumber x) where
     pub first-refused : (a : FileAnswer) → (n ≡ 0 → ⊥) → fileValues a ≡ refused n 0 → JudgesFile l a
     first-refused a z e =
         let number = nq ∙ w .answer in
-        let met : eqb (refusalOfPart [] (take recordLength l)) 0 ≡ false = ne-eqb _ 0 (λ q. z (number ∙ q)) in
+        let met : eqb (refusalOfPart newForm [] (take recordLength l)) 0 ≡ false = ne-eqb _ 0 (λ q. z (number ∙ q)) in
         record { answer = e ∙ ap (λ (m : ℕ). refused m 0) number ∙ sym (all-parts ∙ rw met) }
 
     abbrev pub first-standing : n ≡ 0 → Standing l s 1
     first-standing z =
         let opened = sym nq ∙ z in
-        let none : eqb (refusalOfPart [] (take recordLength l)) 0 ≡ true = eq-eqb _ 0 (sym (w .answer) ∙ opened) in
+        let none : eqb (refusalOfPart newForm [] (take recordLength l)) 0 ≡ true = eq-eqb _ 0 (sym (w .answer) ∙ opened) in
         record {
-          before = recordOfBytes (take recordLength l) ∷ [];
+          before = recordOfBytes newForm (take recordLength l) ∷ [];
           taken = first-taken (take recordLength l) x s w opened;
           rest = all-parts ∙ rw none;
-          all = ap (λ (m : ℕ). map recordOfBytes (parts m l)) (sym (one-part l fair));
+          all = ap (λ (m : ℕ). map (recordOfBytes newForm) (parts newForm m l)) (sym (one-part newForm l fair));
         }
 
 module _ (l : List ℕ) (s : Subject) (k : ℕ) (w : Standing l s k) where
   -- adding part k with a number
-  module _ (h : k < length l / recordLength) (x : AddAnswer) (t : Subject) (n : ℕ) (v : AddsBytes s (partAt l k) x t) (nq : n ≡ addNumber x) where
-    pub next-part : verdictOf l ≡ verdictFrom (w .before) k (partAt l k ∷ from l (k + 1))
-    next-part = w .rest ∙ ap (verdictFrom (w .before) k) (one-more l (length l / recordLength) k h)
+  module _ (h : k < length l / recordLength) (x : AddAnswer) (t : Subject) (n : ℕ) (v : AddsBytes s (partAt newForm l k) x t) (nq : n ≡ addNumber x) where
+    pub next-part : verdictOf newForm l ≡ verdictFrom newForm (w .before) k (partAt newForm l k ∷ from l (k + 1))
+    next-part = w .rest ∙ ap (verdictFrom newForm (w .before) k) (one-more newForm l (length l / recordLength) k h)
 
-    pub number : n ≡ refusalOfPart (w .before) (partAt l k)
+    pub number : n ≡ refusalOfPart newForm (w .before) (partAt newForm l k)
     number = nq ∙ later-number (w .taken) v
 
     pub turn-refused : (a : FileAnswer) → (n ≡ 0 → ⊥) → fileValues a ≡ refused n k → JudgesFile l a
     turn-refused a z e =
-        let met : eqb (refusalOfPart (w .before) (partAt l k)) 0 ≡ false = ne-eqb _ 0 (λ q. z (number ∙ q)) in
+        let met : eqb (refusalOfPart newForm (w .before) (partAt newForm l k)) 0 ≡ false = ne-eqb _ 0 (λ q. z (number ∙ q)) in
         record { answer = e ∙ ap (λ (m : ℕ). refused m k) number ∙ sym (next-part ∙ rw met) }
 
     abbrev pub turn : n ≡ 0 → Standing l t (k + 1)
     turn z =
-        let none : eqb (refusalOfPart (w .before) (partAt l k)) 0 ≡ true = eq-eqb _ 0 (sym number ∙ z) in
+        let none : eqb (refusalOfPart newForm (w .before) (partAt newForm l k)) 0 ≡ true = eq-eqb _ 0 (sym number ∙ z) in
         let done = sym nq ∙ z in
         record {
-          before = w .before ++ (recordOfBytes (partAt l k) ∷ []);
-          taken = more (w .taken) (recordOfBytes (partAt l k)) (later-added (w .taken) v done) done;
+          before = w .before ++ (recordOfBytes newForm (partAt newForm l k) ∷ []);
+          taken = more (w .taken) (recordOfBytes newForm (partAt newForm l k)) (later-added (w .taken) v done) done;
           rest =
               next-part ∙ rw none
-              (ap (λ (j : ℕ). verdictFrom (w .before ++ (recordOfBytes (partAt l k) ∷ [])) j (from l (k + 1))) (sym (add-one k)));
+              (ap (λ (j : ℕ). verdictFrom newForm (w .before ++ (recordOfBytes newForm (partAt newForm l k) ∷ [])) j (from l (k + 1))) (sym (add-one k)));
           all =
-              append-assoc (w .before) (recordOfBytes (partAt l k) ∷ []) (map recordOfBytes (from l (k + 1)))
-              ∙ ap (λ (ps : List (List ℕ)). w .before ++ map recordOfBytes ps) (sym (one-more l (length l / recordLength) k h)) ∙ w .all;
+              append-assoc (w .before) (recordOfBytes newForm (partAt newForm l k) ∷ []) (map (recordOfBytes newForm) (from l (k + 1)))
+              ∙ ap (λ (ps : List (List ℕ)). w .before ++ map (recordOfBytes newForm) ps) (sym (one-more newForm l (length l / recordLength) k h)) ∙ w .all;
         }
 
   pub ended : length l / recordLength ≤ k → (a : FileAnswer) → EndsFile s (k - 1) a → JudgesFile l a
   ended h a v =
       let z : length l / recordLength - k ≡ 0 = omega arith in
       let none : from l k ≡ [] = rw z in
-      record { answer = ending (w .taken) (k - 1) a v ∙ sym (w .rest ∙ ap (verdictFrom (w .before) k) none) }
+      record { answer = ending (w .taken) (k - 1) a v ∙ sym (w .rest ∙ ap (verdictFrom newForm (w .before) k) none) }

@@ -29,7 +29,7 @@ whole-files =
     record {
       printed = refl;
       missing = refl;
-      twelveBytes = refl;
+      fourteenBytes = refl;
       kind0 = refl;
       visitFirst = refl;
       visitBeforeBaseline = refl;

@@ -9,8 +9,9 @@ use Rattle.dates.specs.Laws.{ymd}
 use Rattle.records.specs.declared.Record.{Record}
 use Rattle.records.specs.declared.Status.the-variants as S
 use Rattle.records.specs.Examples.{baselineDated, visitDated}
-use Rattle.codec.specs.Examples.{eleven, printedBytes, printedVisitBytes, oneTargetBytes, missingBytes, therapyBytes, deathBytes}
+use Rattle.codec.specs.Examples.{thirteen, printedBytes, printedVisitBytes, oneTargetBytes, missingBytes, therapyBytes, deathBytes}
 use Rattle.records.specs.declared.OwnRefusal.the-variants as W
+use Rattle.records.specs.Forms.{newForm}
 use Rattle.codec.specs.declared.ReadAnswer.{ReadAnswer}
 use Rattle.codec.specs.declared.ReadAnswer.the-variants as R
 use Rattle.codec.specs.declared.ReadResult.{ReadResult}
@@ -29,14 +30,14 @@ use Rattle.file.specs.declared.FileAnswer.the-variants as F
 
 -- 13 length 0 (index 0)
 pub record EmptyFile : Type 0 where
-  pub nothing : verdictOf [] ≡ refused 13 0
+  pub nothing : verdictOf newForm [] ≡ refused 13 0
 
--- one target of 100, and 60 on days 90, 120 and 50
+-- one target of 100 mm, and 60 mm on days 90, 120 and 50
 abbrev pub sixty : ℕ → ℕ → Record
-sixty month day = visitDated (ymd 2020 month day) S.NA false (true ∷ []) (60 ∷ [])
+sixty month day = visitDated (ymd 2020 month day) S.NA false (true ∷ []) (600 ∷ [])
 
 abbrev pub fallingDays : List Record
-fallingDays = baselineDated (ymd 2020 1 1) true false 1 [] (100 ∷ []) ∷ sixty 3 30 ∷ sixty 4 29 ∷ sixty 2 19 ∷ []
+fallingDays = baselineDated (ymd 2020 1 1) true false 1 [] (1000 ∷ []) ∷ sixty 3 30 ∷ sixty 4 29 ∷ sixty 2 19 ∷ []
 
 -- 14 response would start after PFS ends
 pub record LateAtTheEdges : Type 0 where
@@ -45,7 +46,7 @@ pub record LateAtTheEdges : Type 0 where
   pub after : startsLate (forDays CENSORED 1) (on 44) (censored 43) ≡ true
   pub withoutDuration : startsLate noDuration (on 44) (censored 43) ≡ false
   -- with the index of the last record; the days of these four fall, as in no lawful list: PR 90, PR 120, PR 50
-  pub last : verdictFrom fallingDays 4 [] ≡ refused 14 3
+  pub last : verdictFrom newForm fallingDays 4 [] ≡ refused 14 3
   -- and on the held subject, behind 12
   pub outOfRange : verdictHeld O.blankSubject 3 ≡ refused 12 3
   pub lateOutOfRange : verdictHeld (heldWith true 0 false M.Absent (events M.Absent 50 (onDay 50)) (counts (onDay 90) M.Absent B.PR)) 3
@@ -56,13 +57,13 @@ pub record LateAtTheEdges : Type 0 where
       ≡ accepted
       (record { pfs = censored 120; best = PR; duration = forDays CENSORED 31; pfsSettled = false; bestSettled = false; durationSettled = false })
 
--- the file of the printed example: 2020-01-01, 02-12 (24, 12), 03-25 (0, 9) and 05-06 (0, 15)
+-- the file of the printed example: 2020-01-01, 02-12 (24.0 and 12.0 mm), 03-25 (0 and 9.0) and 05-06 (0 and 15.0)
 abbrev pub printedFile : List ℕ
 printedFile =
     printedBytes
     ++ (printedVisitBytes
-    ++ (eleven (0x4F ∷ 0xC8 ∷ 0x79 ∷ 0x48 ∷ 0x01 ∷ 0x02 ∷ 0x40 ∷ [])
-    ++ eleven (0x4F ∷ 0xC8 ∷ 0xA6 ∷ 0x48 ∷ 0x01 ∷ 0x03 ∷ 0xC0 ∷ [])))
+    ++ (thirteen (0x4F ∷ 0xC8 ∷ 0x79 ∷ 0x48 ∷ 0x00 ∷ 0x20 ∷ 0x5A ∷ [])
+    ++ thirteen (0x4F ∷ 0xC8 ∷ 0xA6 ∷ 0x48 ∷ 0x00 ∷ 0x20 ∷ 0x96 ∷ [])))
 
 -- P EVENT 127, B PR, D EVENT 85, S 1 1 1
 abbrev pub printedOutcome : Outcome
@@ -76,22 +77,22 @@ missingOutcome =
 
 pub record WholeFiles : Type 0 where
   -- accepted: its outcome and marks
-  pub printed : verdictOf printedFile ≡ accepted printedOutcome
-  pub missing : verdictOf missingBytes ≡ accepted missingOutcome
+  pub printed : verdictOf newForm printedFile ≡ accepted printedOutcome
+  pub missing : verdictOf newForm missingBytes ≡ accepted missingOutcome
   -- 13 before its records, with index 0
-  pub twelveBytes : verdictOf (printedBytes ++ (0 ∷ [])) ≡ refused 13 0
+  pub fourteenBytes : verdictOf newForm (printedBytes ++ (0 ∷ [])) ≡ refused 13 0
   -- the first record: 2 to 5, then 7
-  pub kind0 : verdictOf (eleven []) ≡ refused 2 0
-  pub visitFirst : verdictOf printedVisitBytes ≡ refused 7 0
-  pub visitBeforeBaseline : verdictOf (printedVisitBytes ++ printedBytes) ≡ refused 7 0
+  pub kind0 : verdictOf newForm (thirteen []) ≡ refused 2 0
+  pub visitFirst : verdictOf newForm printedVisitBytes ≡ refused 7 0
+  pub visitBeforeBaseline : verdictOf newForm (printedVisitBytes ++ printedBytes) ≡ refused 7 0
   -- later ones: 2 to 5, then 8 to 11, with the record's index
-  pub laterKind0 : verdictOf (printedBytes ++ eleven []) ≡ refused 2 1
-  pub secondBaseline : verdictOf (printedBytes ++ printedBytes) ≡ refused 8 1
-  pub afterDeath : verdictOf (printedBytes ++ (deathBytes ++ therapyBytes)) ≡ refused 9 2
-  pub sameDay : verdictOf (printedBytes ++ (printedVisitBytes ++ printedVisitBytes)) ≡ refused 10 2
-  pub misfit : verdictOf (oneTargetBytes ++ printedVisitBytes) ≡ refused 11 1
+  pub laterKind0 : verdictOf newForm (printedBytes ++ thirteen []) ≡ refused 2 1
+  pub secondBaseline : verdictOf newForm (printedBytes ++ printedBytes) ≡ refused 8 1
+  pub afterDeath : verdictOf newForm (printedBytes ++ (deathBytes ++ therapyBytes)) ≡ refused 9 2
+  pub sameDay : verdictOf newForm (printedBytes ++ (printedVisitBytes ++ printedVisitBytes)) ≡ refused 10 2
+  pub misfit : verdictOf newForm (oneTargetBytes ++ printedVisitBytes) ≡ refused 11 1
   -- the first bad one stops it
-  pub firstBad : verdictOf (printedBytes ++ (printedBytes ++ eleven [])) ≡ refused 8 1
+  pub firstBad : verdictOf newForm (printedBytes ++ (printedBytes ++ thirteen [])) ≡ refused 8 1
 
 -- the number that reading gives, beside the blank record
 abbrev pub reading : ReadAnswer → ReadResult

@@ -12,6 +12,7 @@ use lib.Dec.{eqb}
 use lib.ListN.{length}
 use Rattle.laws.specs.Choice.{pick}
 use Rattle.laws.specs.Layout.{AreBytes}
+use Rattle.records.specs.Forms.{newForm, newUnit}
 use Rattle.codec.specs.Bytes.{recordLength}
 use Rattle.codec.specs.declared.ReadResult.{ReadResult}
 use Rattle.codec.specs.Reading.{readNumber, recordOfBytes, Reads}
@@ -66,15 +67,15 @@ pub record PartsCalled (ps : List (List ℕ)) : Type 0 where
 
 pub record FileAsCalls : Type 0 where
   -- where 13 does not meet a file, its parts have 11 bytes each and joined are the file
-  pub cut : Cuts
+  pub cut : Cuts newForm
   -- and the calls have answers
-  pub called : (s : List ℕ) → AreBytes s → badLength (length s) ≡ false → PartsCalled (partsOf s)
+  pub called : (s : List ℕ) → AreBytes s → badLength newForm (length s) ≡ false → PartsCalled (partsOf newForm s)
   -- an accepted file: no call refuses, the outcome is the one read, and the lines of its visits are the responses answered
   pub accepts : (s : List ℕ) {ns : List ℕ} {ls : List VisitLine} {t : Subject} {q : OutcomeAnswer} {o : Outcome} →
-      verdictOf s ≡ accepted o → CallsOnParts (partsOf s) ns ls t → ReadsOutcome t q →
-      (firstStop 0 ns ≡ never) × (readingValues q ≡ outcome o) × (linesInOrder (onStudyDays (map recordOfBytes (partsOf s))) ≡ ls)
+      verdictOf newForm s ≡ accepted o → CallsOnParts (partsOf newForm s) ns ls t → ReadsOutcome t q →
+      (firstStop 0 ns ≡ never) × (readingValues q ≡ outcome o) × (linesInOrder (onStudyDays newUnit (map (recordOfBytes newForm) (partsOf newForm s))) ≡ ls)
   pub refuses : (s : List ℕ) {ns : List ℕ} {ls : List VisitLine} {t : Subject} {n k : ℕ} →
-      badLength (length s) ≡ false → CallsOnParts (partsOf s) ns ls t → firstStop 0 ns ≡ at n k → verdictOf s ≡ refused n k
+      badLength newForm (length s) ≡ false → CallsOnParts (partsOf newForm s) ns ls t → firstStop 0 ns ≡ at n k → verdictOf newForm s ≡ refused n k
   -- and where no call refuses, it is 14 with the index of the last record, or the outcome read
   pub otherwise : (s : List ℕ) {ns : List ℕ} {ls : List VisitLine} {t : Subject} {q : OutcomeAnswer} →
-      badLength (length s) ≡ false → CallsOnParts (partsOf s) ns ls t → firstStop 0 ns ≡ never → ReadsOutcome t q → (verdictOf s ≡ refused 14 (length s / recordLength - 1)) ⊎ ((o : Outcome) × (readingValues q ≡ outcome o) × (verdictOf s ≡ accepted o))
+      badLength newForm (length s) ≡ false → CallsOnParts (partsOf newForm s) ns ls t → firstStop 0 ns ≡ never → ReadsOutcome t q → (verdictOf newForm s ≡ refused 14 (length s / recordLength - 1)) ⊎ ((o : Outcome) × (readingValues q ≡ outcome o) × (verdictOf newForm s ≡ accepted o))

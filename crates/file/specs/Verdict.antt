@@ -1,4 +1,5 @@
--- Document 01, "Change in size, file and listing" and "Where a call stops", 13 and 14: a file of records judged, by the definitions on lists.
+-- Document 01, "Change in size, file and listing" and "Where a call stops", 13 and 14: a file of records judged, by the definitions on lists, in either
+-- form of document 02, request 1.
 -- Assumes nothing.
 use mathlib.Core.Path.{_≡_}
 use mathlib.Core.Bool.{Bool, false}
@@ -8,6 +9,7 @@ use lib.Dec.{ltb, eqb}
 use lib.ListN.{length}
 use Rattle.laws.specs.Choice.{both, pick}
 use Rattle.laws.specs.Refusals.{Refusal, _when_, first}
+use Rattle.records.specs.Forms.{Form, newForm}
 use Rattle.records.specs.declared.Record.{Record}
 use Rattle.codec.specs.Reading.{refusalsOfBytes, recordOfBytes}
 use Rattle.codec.specs.Parts.{badLength, partsOf}
@@ -21,14 +23,6 @@ use Rattle.outcome_rules.specs.Adding.{refusalsOfOpening, refusalsOfAdding}
 use Rattle.outcome.specs.ReadingOutcome.{outcomeValues}
 use Rattle.file.specs.declared.FileAnswer.{FileAnswer}
 use Rattle.file.specs.declared.FileAnswer.the-variants as F
-
--- 2 to 5 where reading refuses the bytes, of which there are 11; then 7 for the first record and 8 to 11 for later ones, judged against the records before it
-abbrev pub refusalsOfPart : List Record → List ℕ → List Refusal
-refusalsOfPart [] part = refusalsOfBytes part ++ refusalsOfOpening (recordOfBytes part)
-refusalsOfPart (b ∷ rs) part = refusalsOfBytes part ++ refusalsOfAdding (b ∷ rs) (recordOfBytes part)
-
-abbrev pub refusalOfPart : List Record → List ℕ → ℕ
-refusalOfPart rs part = first (refusalsOfPart rs part)
 
 -- a refusal's number and the index of a record, or the outcome with its marks
 pub data Verdict : Type 0 where
@@ -58,15 +52,24 @@ verdictOn rs last =
     unlessRefused (14 when responseStartsLate (course b (reverse rs)) ∷ []) last (accepted (outcomeInOrder b rs)))
     rs
 
--- the records from index k on, behind those accepted: the first bad one stops it, with its index
-abbrev pub verdictFrom : List Record → ℕ → List (List ℕ) → Verdict
-verdictFrom rs k [] = verdictOn (onStudyDays rs) (k - 1)
-verdictFrom rs k (part ∷ ps) =
-    unlessRefused (refusalsOfPart rs part) k (verdictFrom (rs ++ (recordOfBytes part ∷ [])) (suc k) ps)
+module _ (form : Form) where
+  -- 2 to 5 where reading refuses the bytes, of which there are as many as a record has; then 7 for the first record and 8 to 11 for later ones, judged against the records before it
+  abbrev pub refusalsOfPart : List Record → List ℕ → List Refusal
+  refusalsOfPart [] part = refusalsOfBytes form part ++ refusalsOfOpening (form .unit) (recordOfBytes form part)
+  refusalsOfPart (b ∷ rs) part = refusalsOfBytes form part ++ refusalsOfAdding (form .unit) (b ∷ rs) (recordOfBytes form part)
 
--- 13 first, with index 0
-unfoldable pub verdictOf : List ℕ → Verdict
-verdictOf s = unlessRefused (13 when badLength (length s) ∷ []) 0 (verdictFrom [] 0 (partsOf s))
+  abbrev pub refusalOfPart : List Record → List ℕ → ℕ
+  refusalOfPart rs part = first (refusalsOfPart rs part)
+
+  -- the records from index k on, behind those accepted: the first bad one stops it, with its index
+  abbrev pub verdictFrom : List Record → ℕ → List (List ℕ) → Verdict
+  verdictFrom rs k [] = verdictOn (onStudyDays (form .unit) rs) (k - 1)
+  verdictFrom rs k (part ∷ ps) =
+      unlessRefused (refusalsOfPart rs part) k (verdictFrom (rs ++ (recordOfBytes form part ∷ [])) (suc k) ps)
+
+  -- 13 first, with index 0
+  unfoldable pub verdictOf : List ℕ → Verdict
+  verdictOf s = unlessRefused (13 when badLength form (length s) ∷ []) 0 (verdictFrom [] 0 (partsOf form s))
 
 -- the declared cases
 abbrev pub fileValues : FileAnswer → Verdict
@@ -74,4 +77,4 @@ fileValues (F.Refused r) = refused (r .number) (r .index)
 fileValues (F.Accepted o) = accepted (outcomeValues o)
 
 pub record JudgesFile (s : List ℕ) (a : FileAnswer) : Type 0 where
-  pub answer : fileValues a ≡ verdictOf s
+  pub answer : fileValues a ≡ verdictOf newForm s

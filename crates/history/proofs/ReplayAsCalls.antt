@@ -6,6 +6,7 @@ use Prim.Native.Nat.{ℕ, suc, _+_, _-_, _/_, _≤_, _<_}
 use native.Mathlib.Omega.{arith}
 use lib.ListN.{length, take}
 use Rattle.records.specs.declared.Record.{Record}
+use Rattle.records.specs.Forms.{newForm}
 use Rattle.codec.specs.Bytes.{recordLength}
 use Rattle.codec.specs.Reading.{recordOfBytes}
 use Rattle.outcome_rules.specs.Adding.{Call}
@@ -34,18 +35,18 @@ one-turn w q c = record { replied = _; calls = adds w (reads q (c .calls)) }
 
 -- the records from number k on, of count in all
 abbrev pub from : List ℕ → ℕ → ℕ → List Record
-from l count k = map recordOfBytes (partsFrom l count k)
+from l count k = map (recordOfBytes newForm) (partsFrom newForm l count k)
 
 -- what is left to replay completes the whole
 abbrev pub Goes : List ℕ → ℕ → Subject → Subject → ℕ → Type 0
 Goes l count first s k = (t : Subject) → Reached s (from l count k) t → Reached first (from l count 1) t
 
 module _ (l : List ℕ) (count k : ℕ) where
-  pub turn : (first s t : Subject) (r : Record) (a : AddAnswer) (o : OutcomeAnswer) → k < count → Goes l count first s k → r ≡ recordOfBytes (partAt l k) →
+  pub turn : (first s t : Subject) (r : Record) (a : AddAnswer) (o : OutcomeAnswer) → k < count → Goes l count first s k → r ≡ recordOfBytes newForm (partAt newForm l k) →
       Adds s r a t → ReadsOutcome t o → Goes l count first t (k + 1)
   turn first s t r a o h g re w q u c =
       let next : from l count k ≡ r ∷ from l count (k + 1) =
-      ap (map recordOfBytes) (one-more l count k h) ∙ ap (λ (x : Record). x ∷ from l count (k + 1)) (sym re) in
+      ap (map (recordOfBytes newForm)) (one-more newForm l count k h) ∙ ap (λ (x : Record). x ∷ from l count (k + 1)) (sym re) in
       g u (subst (λ (rs : List Record). Reached s rs u) (sym next) (one-turn w q c))
 
   -- behind the last record
@@ -63,7 +64,7 @@ blank-stays e (reads w c) = blank-stays e c
 pub empty : (l : List ℕ) → length l / recordLength ≡ 0 → Replayed (recordsIn l) A.OutOfRange
 empty l e = rw e
 
-pub replayed : (l : List ℕ) (b : Record) (a : OpenAnswer) (s t : Subject) (o : OutcomeAnswer) → (length l / recordLength ≡ 0 → ⊥) → b ≡ recordOfBytes (take recordLength l) →
+pub replayed : (l : List ℕ) (b : Record) (a : OpenAnswer) (s t : Subject) (o : OutcomeAnswer) → (length l / recordLength ≡ 0 → ⊥) → b ≡ recordOfBytes newForm (take recordLength l) →
     Opens b a s → Reached s (from l (length l / recordLength) 1) t → ReadsOutcome t o → Replayed (recordsIn l) o
 replayed l b a s t o h be w c q =
     subst (λ (rs : List Record). Replayed rs o) whole (
@@ -76,4 +77,4 @@ replayed l b a s t o h be w c q =
     whole : b ∷ from l (length l / recordLength) 1 ≡ recordsIn l
     whole =
         let e : length l / recordLength ≡ suc (length l / recordLength - 1) = omega arith in
-        ap (λ (x : Record). x ∷ from l (length l / recordLength) 1) be ∙ sym (ap (λ (n : ℕ). map recordOfBytes (parts n l)) e)
+        ap (λ (x : Record). x ∷ from l (length l / recordLength) 1) be ∙ sym (ap (λ (n : ℕ). map (recordOfBytes newForm) (parts newForm n l)) e)

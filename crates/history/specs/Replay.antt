@@ -4,6 +4,7 @@ use mathlib.Core.Path.{_≡_}
 use mathlib.Core.List.{List, [], _∷_, map}
 use Prim.Native.Nat.{ℕ}
 use Rattle.records.specs.declared.Record.{Record}
+use Rattle.records.specs.Forms.{newForm, newUnit}
 use Rattle.codec.specs.Reading.{recordOfBytes}
 use Rattle.outcome_rules.specs.Adding.{refusalOfOpening, Call, add, read, accepted}
 use Rattle.outcome.specs.declared.OutcomeAnswer.{OutcomeAnswer}
@@ -13,7 +14,7 @@ use Rattle.codec.specs.Parts.{partsOf}
 
 -- the records of a byte string; bytes behind the last whole part are left
 abbrev pub recordsIn : List ℕ → List Record
-recordsIn l = map recordOfBytes (partsOf l)
+recordsIn l = map (recordOfBytes newForm) (partsOf newForm l)
 
 -- each record is added, and the outcome is read
 abbrev pub callsOf : List Record → List Call
@@ -24,4 +25,4 @@ callsOf (r ∷ rs) = add r ∷ read ∷ callsOf rs
 abbrev pub Replayed : List Record → OutcomeAnswer → Type 0
 Replayed [] o = readingValues o ≡ refused 12
 Replayed (b ∷ rs) o =
-    (refusalOfOpening b ≡ 0 → Claim o (accepted b (callsOf rs))) × ((refusalOfOpening b ≡ 0 → ⊥) → readingValues o ≡ refused 12)
+    (refusalOfOpening newUnit b ≡ 0 → Claim o (accepted newUnit b (callsOf rs))) × ((refusalOfOpening newUnit b ≡ 0 → ⊥) → readingValues o ≡ refused 12)

@@ -7,10 +7,11 @@ use records::Record;
 ghost use mathlib.Core.Path.{_≡_};
 ghost use Rattle.codec.specs.Reading.{recordOfBytes};
 ghost use Rattle.history.specs.Replay.{recordsIn, Replayed};
+ghost use Rattle.records.specs.Forms.{newForm};
 
 // The record in 11 bytes; the blank one, which opening and adding refuse by 3, where reading refuses them.
 fn record_in(part: &[u8]) -> Record
-    ensures { λ r. ⌜ r ≡ recordOfBytes (now (part .entry)) ⌝ }
+    ensures { λ r. ⌜ r ≡ recordOfBytes newForm (now (part .entry)) ⌝ }
 {
     let result = codec::read(part);
     result.found

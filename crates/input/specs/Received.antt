@@ -8,12 +8,13 @@ use lib.ListN.{length, drop}
 use Rattle.io.specs.Counts.{clamped}
 use Rattle.codec.specs.Parts.{mostBytes}
 use Rattle.input.specs.declared.Input.{Input}
+use Rattle.records.specs.Forms.{newForm}
 
 pub record Received (bytes : List ℕ) (x : Input) (left : List ℕ) : Type 0 where
   pub within : x .count ≤ length left
   -- every byte past those read is as it was
   pub rest : drop (x .count) left ≡ drop (x .count) bytes
   -- unless there are more bytes than a file may have, the last read failed or was at the end of input
-  pub ended : x .count ≤ mostBytes → clamped (x .end) 1 ≡ 0
+  pub ended : x .count ≤ mostBytes newForm → clamped (x .end) 1 ≡ 0
   -- and where there are more, the answer is a number above 0
-  pub over : mostBytes < x .count → clamped (x .end) 1 ≡ 1
+  pub over : mostBytes newForm < x .count → clamped (x .end) 1 ≡ 1

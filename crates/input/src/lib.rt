@@ -20,7 +20,7 @@ fn store(chunk: &[u8], n: usize, bytes: &mut [u8], at: usize)
     bytes::copy(&chunk[..n], &mut bytes[at..]);
 }
 
-// By chunks, since a read into a part of a lent slice is not covered by the kit's proofs. There is room for 44,000 bytes and a chunk of 4,096.
+// By chunks, since a read into a part of a lent slice is not covered by the kit's proofs. There is room for 52,000 bytes and a chunk of 4,096.
 fn read_into(bytes: &mut [u8]) -> Input
     requires { ⌜ length (now bytes) ≡ 65536 ⌝ }
     ensures { λ x. ⌜ Received (now (bytes .entry)) x (now (bytes .exit)) ⌝ }

@@ -17,3 +17,8 @@ some-none f (suc n) e k h = go (eqb k n) refl (some-none f n (either-false (some
     go : (b : Bool) → eqb k n ≡ b → (k < n → f k ≡ false) → f k ≡ false
     go true q r = rw (eqb-true k n q) (either-false (some f n) (f n) e .1)
     go false q r = r (omega (arith, eqb-false k n q))
+
+-- the same test at every number
+pub some-same : (f g : ℕ → Bool) (n : ℕ) → ((i : ℕ) → f i ≡ g i) → some f n ≡ some g n
+some-same f g zero e = refl
+some-same f g (suc n) e = rw (e n, some-same f g n e)

@@ -2,10 +2,10 @@
 -- Assumes nothing.
 use mathlib.Core.Path.{_≡_, refl, sym, _∙_, ap}
 use mathlib.Core.Bool.{Bool, true, false, not, Bool·not-not}
-use Prim.Native.Nat.{ℕ}
+use Prim.Native.Nat.{ℕ, _≤_, _<_}
 use native.Mathlib.Omega.{arith}
 use lib.Dec.{leb, ltb, eqb}
-use borrow.Author.Tests.{lt-ltb, le-ltb, le-leb, lt-leb, eq-eqb, ne-eqb, leb-true, leb-false, ltb-true, ltb-false}
+use borrow.Author.Tests.{lt-ltb, le-ltb, le-leb, lt-leb, eq-eqb, ne-eqb, leb-true, leb-false, ltb-true, ltb-false, eqb-true, eqb-false}
 use Rattle.laws.specs.Choice.{both, either}
 
 pub ruleset tests = (lt-ltb, le-ltb, le-leb, lt-leb, eq-eqb, ne-eqb)
@@ -47,3 +47,21 @@ not-leb m n = go (leb m n) refl
 
 pub not-ltb : (m n : ℕ) → not (ltb m n) ≡ leb n m
 not-ltb m n = sym (ap not (not-leb n m)) ∙ Bool·not-not (leb n m)
+
+-- two tests that pass and fail together
+pub leb-same : (a b m n : ℕ) → (m ≤ n → a ≤ b) → (n < m → b < a) → leb a b ≡ leb m n
+leb-same a b m n le lt = go (leb m n) refl
+  where
+    go : (x : Bool) → leb m n ≡ x → leb a b ≡ x
+    go true e = le-leb a b (le (leb-true m n e))
+    go false e = lt-leb a b (lt (leb-false m n e))
+
+pub ltb-same : (a b m n : ℕ) → (m < n → a < b) → (n ≤ m → b ≤ a) → ltb a b ≡ ltb m n
+ltb-same a b m n lt le = sym (not-leb b a) ∙ ap not (leb-same b a n m le lt) ∙ not-leb n m
+
+pub eqb-same : (a b m n : ℕ) → (m ≡ n → a ≡ b) → (a ≡ b → m ≡ n) → eqb a b ≡ eqb m n
+eqb-same a b m n to from = go (eqb m n) refl
+  where
+    go : (x : Bool) → eqb m n ≡ x → eqb a b ≡ x
+    go true e = eq-eqb a b (to (eqb-true m n e))
+    go false e = ne-eqb a b (λ q. eqb-false m n e (from q))

@@ -18,6 +18,7 @@ use Rattle.listing_text.specs.Text.{outcomeText, refusalText, listingOf, longes
 use Rattle.listing_text.proofs.ListingLength.{lengths}
 use Rattle.listing.specs.Writing.{Wrote, SmallIndex, JudgesInto, ListsFile}
 use Rattle.listing.proofs.TextsWritten.{then, as-text}
+use Rattle.records.specs.Forms.{newForm}
 
 -- the kit's copy of the first n bytes
 pub copied : (from page left : List ℕ) (n : ℕ) → n ≤ length from → left ≡ take (length (take n from)) (take n from) ++ drop (length (take n from)) page →
@@ -50,23 +51,23 @@ module _ (s page : List ℕ) (a : FileAnswer) (m : ℕ) (page₁ : List ℕ) (w 
       Wrote page₂ 0 (refusalText (r .number) (r .index)) n left → ListsFile s page n left
   unfolding listingOf pageOf
   lists-refused page₂ left n r q e v =
-      let verdict : verdictOf s ≡ refused (r .number) (r .index) = sym (w .answer) ∙ rw q in
-      let text : refusalText (r .number) (r .index) ≡ listingOf s = rw verdict in
+      let verdict : verdictOf newForm s ≡ refused (r .number) (r .index) = sym (w .answer) ∙ rw q in
+      let text : refusalText (r .number) (r .index) ≡ listingOf newForm s = rw verdict in
       let again : Wrote page 0 (refusalText (r .number) (r .index)) n left =
       subst (λ (p : List ℕ). Wrote p 0 (refusalText (r .number) (r .index)) n left) (restored page₂ e) v in
-      let done = from-start page (listingOf s) left n (omega (arith, lengths .listing s, size)) (as-text text again) in
+      let done = from-start page (listingOf newForm s) left n (omega (arith, lengths .listing s, size)) (as-text text again) in
       record { count = done .0; whole = done .1 }
 
   pub lists-accepted : (left : List ℕ) (n : ℕ) (o : OutcomeResult) → a ≡ F.Accepted o → Wrote page₁ m (outcomeText (outcomeValues o)) n left → ListsFile s page n left
   unfolding listingOf pageOf
   lists-accepted left n o q v =
-      let verdict : verdictOf s ≡ accepted (outcomeValues o) = sym (w .answer) ∙ rw q in
-      let text : w .text ++ outcomeText (outcomeValues o) ≡ listingOf s =
+      let verdict : verdictOf newForm s ≡ accepted (outcomeValues o) = sym (w .answer) ∙ rw q in
+      let text : w .text ++ outcomeText (outcomeValues o) ≡ listingOf newForm s =
       ap (λ (t : List ℕ). t ++ outcomeText (outcomeValues o)) (w .lines (outcomeValues o) verdict .1) ∙ rw verdict in
-      let done = from-start page (listingOf s) left n (omega (arith, lengths .listing s, size)) (as-text text (then (w .written) v)) in
+      let done = from-start page (listingOf newForm s) left n (omega (arith, lengths .listing s, size)) (as-text text (then (w .written) v)) in
       record { count = done .0; whole = done .1 }
 
 -- the text is within the page
 pub within-page : (s page left : List ℕ) (n : ℕ) → ListsFile s page n left → n ≤ length left
 unfolding pageOf
-within-page s page left n w = omega (arith, w .count, ap length (w .whole), length-append (listingOf s) (drop (length (listingOf s)) page))
+within-page s page left n w = omega (arith, w .count, ap length (w .whole), length-append (listingOf newForm s) (drop (length (listingOf newForm s)) page))

@@ -14,6 +14,7 @@ use Rattle.records.specs.declared.Record.{Record}
 use Rattle.records.specs.Entries.{Five}
 use Rattle.records.specs.Refusals.{refusalOfRecord}
 use Rattle.records.proofs.NoOwnRefusal.{none-after-own}
+use Rattle.records.specs.Forms.{newForm, newUnit}
 use Rattle.outcome_rules.specs.StudyRecords.{Baseline, StudyRecord, dayOf, entryOnStudyDay}
 use Rattle.outcome_rules.specs.LawfulLists.{Past}
 use Rattle.outcome_rules.specs.VisitLines.{linesOfRecord}
@@ -33,7 +34,7 @@ use Rattle.listing_text.proofs.VisitLengths.{AllShort, next-short}
 use Rattle.listing.specs.Writing.{AllWritable}
 
 -- every study day of a record has five digits
-day-small : (randomisation : Date) (e : Entry) (marks : List _) (sizes : List ℕ) → dayOf (entryOnStudyDay randomisation e marks sizes) < 100000
+day-small : (randomisation : Date) (e : Entry) (marks : List _) (sizes : List ℕ) → dayOf (entryOnStudyDay newUnit randomisation e marks sizes) < 100000
 day-small randomisation (E.Baseline b) marks sizes = omega arith
 day-small randomisation (E.Visit v) marks sizes = let h = study-day-most randomisation (v .date) in omega arith
 day-small randomisation (E.Therapy d) marks sizes = let h = study-day-most randomisation d in omega arith
@@ -43,7 +44,7 @@ day-small randomisation (E.Death d) marks sizes = let h = study-day-most randomi
 pub short-responses : (a : AddAnswer) → AllShort (addResponses a) → AllWritable (addResponses a) × (length (linesText (addResponses a)) ≤ 24)
 short-responses A.Done h = (tt, omega arith)
 short-responses (A.Judged v) h = ((record { day = h .0 .day; change = h .0 .change }, tt), subst (λ (t : List ℕ). length t ≤ 24) (sym (append-nil (visitText (responseValues v)))) (h .0 .whole))
-short-responses A.NotElevenBytes h = (tt, omega arith)
+short-responses A.WrongLength h = (tt, omega arith)
 short-responses A.NoSuchKind h = (tt, omega arith)
 short-responses A.SecondBaseline h = (tt, omega arith)
 short-responses A.AfterDeath h = (tt, omega arith)
@@ -63,9 +64,9 @@ module _ {rs : List Record} {s t : Subject} {a : AddAnswer} (h : Taken rs s) (r 
   abbrev next : StudyRecord
   next = on-day (h .entry) (h .marks) (h .sizes) r
 
-  both-none : (refusalOfRecord r ≡ 0) × (first (refusalsOfStudyRecord b p next) ≡ 0)
+  both-none : (refusalOfRecord newUnit r ≡ 0) × (first (refusalsOfStudyRecord b p next) ≡ 0)
   unfolding refusalsOfAdding
-  both-none = none-after-own r (refusalsOfStudyRecord b p next) .0 (eqb-true _ 0 (accepts h r w z))
+  both-none = none-after-own newUnit r (refusalsOfStudyRecord b p next) .0 (eqb-true _ 0 (accepts h r w z))
 
   shown : addResponses a ≡ linesOfRecord b p next
   shown = responses (h .entry) (h .marks) (h .sizes) (h .later) r (h .held) w ∙ rw (accepts h r w z)

@@ -9,6 +9,7 @@ use lib.ListN.{length, take}
 use Rattle.laws.specs.Refusals.{_when_}
 use Rattle.records.specs.declared.Record.{Record}
 use Rattle.records.specs.Entries.{dateOf}
+use Rattle.records.specs.Forms.{newForm, newUnit}
 use Rattle.codec.specs.Bytes.{recordLength}
 use Rattle.codec.specs.Reading.{recordOfBytes}
 use Rattle.codec.proofs.FiveMarksAndSizes.{found-five}
@@ -43,7 +44,7 @@ use Rattle.listing.proofs.ResponsesWritable.{short-responses, shown-sho
 -- the records before index k are taken, and their lines written
 pub record Printing (l page₀ page : List ℕ) (s : Subject) (at k : ℕ) : Type 0 where
   pub standing : Standing l s k
-  pub written : Wrote page₀ 0 (linesText (linesInOrder (onStudyDays (standing .before)))) at page
+  pub written : Wrote page₀ 0 (linesText (linesInOrder (onStudyDays newUnit (standing .before)))) at page
 
 -- of a refused file nothing is promised of the text
 module _ (l page left : List ℕ) (a : FileAnswer) (m : ℕ) where
@@ -62,39 +63,39 @@ module _ (l page left : List ℕ) (a : FileAnswer) (m : ℕ) where
   early-into : (n : ℕ) → JudgesFile l a → left ≡ page → (fileValues a ≡ refused n 0) × (m ≡ 0) → JudgesInto l page a m left
   early-into n w p e = refused-into n 0 w (e .0) (omega arith) (omega (arith, e .1)) [] (rw (p, e .1) (nothing page 0))
 
-  pub bad-into : badLength (length l) ≡ true → left ≡ page → (fileValues a ≡ refused 13 0) × (m ≡ 0) → JudgesInto l page a m left
+  pub bad-into : badLength newForm (length l) ≡ true → left ≡ page → (fileValues a ≡ refused 13 0) × (m ≡ 0) → JudgesInto l page a m left
   bad-into h p e = early-into 13 (bad l a h (e .0)) p e
 
-  pub first-into : badLength (length l) ≡ false → left ≡ page → (x : OpenAnswer) (s : Subject) (n : ℕ) → OpensBytes (take recordLength l) x s →
+  pub first-into : badLength newForm (length l) ≡ false → left ≡ page → (x : OpenAnswer) (s : Subject) (n : ℕ) → OpensBytes (take recordLength l) x s →
       n ≡ openNumber x → (n ≡ 0 → ⊥) → (fileValues a ≡ refused n 0) × (m ≡ 0) → JudgesInto l page a m left
   first-into h p x s n w nq z e = early-into n (first-refused l h x s n w nq a z (e .0)) p e
 
-  pub turn-into : (s : Subject) (at k : ℕ) → Printing l page left s at k → k < length l / recordLength → length l ≤ mostBytes → at ≤ mostLines →
-      (x : AddAnswer) (t : Subject) (n : ℕ) → AddsBytes s (partAt l k) x t → n ≡ addNumber x → (n ≡ 0 → ⊥) → (fileValues a ≡ refused n k) × (m ≡ at) →
+  pub turn-into : (s : Subject) (at k : ℕ) → Printing l page left s at k → k < length l / recordLength → length l ≤ mostBytes newForm → at ≤ mostLines →
+      (x : AddAnswer) (t : Subject) (n : ℕ) → AddsBytes s (partAt newForm l k) x t → n ≡ addNumber x → (n ≡ 0 → ⊥) → (fileValues a ≡ refused n k) × (m ≡ at) →
       JudgesInto l page a m left
   turn-into s at k w h b f x t n v nq z e =
       refused-into n k (turn-refused l s k (w .standing) h x t n v nq a z (e .0)) (e .0) (omega arith) (omega (arith, e .1))
-      (linesText (linesInOrder (onStudyDays (w .standing .before)))) (rw (e .1) (w .written))
+      (linesText (linesInOrder (onStudyDays newUnit (w .standing .before)))) (rw (e .1) (w .written))
 
-pub first-printing : (l page : List ℕ) → badLength (length l) ≡ false → (x : OpenAnswer) (s : Subject) (n : ℕ) → OpensBytes (take recordLength l) x s →
+pub first-printing : (l page : List ℕ) → badLength newForm (length l) ≡ false → (x : OpenAnswer) (s : Subject) (n : ℕ) → OpensBytes (take recordLength l) x s →
     n ≡ openNumber x → n ≡ 0 → Printing l page page s 0 1
 first-printing l page h x s n w nq z =
-    let r = recordOfBytes (take recordLength l) in
+    let r = recordOfBytes newForm (take recordLength l) in
     record {
       standing = first-standing l h x s n w nq z;
       written = as-text (ap linesText (sym (alone (dateOf (r .entry)) (r .entry) (r .marks) (r .sizes)))) (nothing page 0);
     }
 
 module _ (l page₀ page : List ℕ) (s : Subject) (at k : ℕ) (w : Printing l page₀ page s at k) (h : k < length l / recordLength) (x : AddAnswer) (t : Subject) (n : ℕ)
-    (v : AddsBytes s (partAt l k) x t) (nq : n ≡ addNumber x) (z : n ≡ 0) where
+    (v : AddsBytes s (partAt newForm l k) x t) (nq : n ≡ addNumber x) (z : n ≡ 0) where
   done : addNumber x ≡ 0
   done = sym nq ∙ z
 
-  added : Adds s (recordOfBytes (partAt l k)) x t
+  added : Adds s (recordOfBytes newForm (partAt newForm l k)) x t
   added = later-added (w .standing .taken) v done
 
   pub next-writable : AllWritable (addResponses x) × (length (linesText (addResponses x)) ≤ 24)
-  next-writable = short-responses x (shown-short (w .standing .taken) (recordOfBytes (partAt l k)) (found-five (partAt l k)) added done)
+  next-writable = short-responses x (shown-short (w .standing .taken) (recordOfBytes newForm (partAt newForm l k)) (found-five newForm (partAt newForm l k)) added done)
 
   pub turn-printing : (at′ : ℕ) (page′ : List ℕ) → Wrote page at (linesText (addResponses x)) at′ page′ → Printing l page₀ page′ t at′ (k + 1)
   turn-printing at′ page′ u =
@@ -102,8 +103,8 @@ module _ (l page₀ page : List ℕ) (s : Subject) (at k : ℕ) (w : Printing l 
         standing = turn l s k (w .standing) h x t n v nq z;
         written =
             as-text
-            (sym (lines-append (linesInOrder (onStudyDays (w .standing .before))) (addResponses x))
-            ∙ ap linesText (sym (lines-more (w .standing .taken) (recordOfBytes (partAt l k)) added done)))
+            (sym (lines-append (linesInOrder (onStudyDays newUnit (w .standing .before))) (addResponses x))
+            ∙ ap linesText (sym (lines-more (w .standing .taken) (recordOfBytes newForm (partAt newForm l k)) added done)))
             (then (w .written) u);
       }
 
@@ -130,18 +131,18 @@ module _ (l page₀ page : List ℕ) (s : Subject) (at k : ℕ) (w : Printing l 
       go true = omega arith
       go false = tt
 
-  outcomeRead : (o : Outcome) → verdictOf l ≡ accepted o → ReadingWithin (outcome o)
+  outcomeRead : (o : Outcome) → verdictOf newForm l ≡ accepted o → ReadingWithin (outcome o)
   outcomeRead o e = go (startsLate (durationHeld s) (dayValue (s .followup .counting .firstresponse)) (pfsHeld s)) (sym inside ∙ judged .answer ∙ e)
     where
       go : (late : Bool) → unlessRefused (14 when late ∷ []) (k - 1) (accepted (outcomeOf s)) ≡ accepted o → ReadingWithin (outcome o)
       go true q = absurd (apart refl q)
       go false q = subst (λ (u : Outcome). ReadingWithin (outcome u)) (accepted-same q) reading-inside
 
-  every-record : w .standing .before ≡ map recordOfBytes (partsOf l)
+  every-record : w .standing .before ≡ map (recordOfBytes newForm) (partsOf newForm l)
   every-record =
       let z : length l / recordLength - k ≡ 0 = omega arith in
       let none : from l k ≡ [] = rw z in
-      sym (append-nil (w .standing .before)) ∙ ap (λ (ps : List (List ℕ)). w .standing .before ++ map recordOfBytes ps) (sym none) ∙ w .standing .all
+      sym (append-nil (w .standing .before)) ∙ ap (λ (ps : List (List ℕ)). w .standing .before ++ map (recordOfBytes newForm) ps) (sym none) ∙ w .standing .all
 
   pub ended-into : JudgesInto l page₀ a at page
   ended-into =
@@ -149,7 +150,7 @@ module _ (l page₀ page : List ℕ) (s : Subject) (at k : ℕ) (w : Printing l 
         answer = judged .answer;
         index = small;
         within = m;
-        text = linesText (linesInOrder (onStudyDays (w .standing .before)));
+        text = linesText (linesInOrder (onStudyDays newUnit (w .standing .before)));
         written = w .written;
-        lines = λ o e. (outcomeRead o e, ap (λ (rs : List Record). linesText (linesInOrder (onStudyDays rs))) every-record);
+        lines = λ o e. (outcomeRead o e, ap (λ (rs : List Record). linesText (linesInOrder (onStudyDays newUnit rs))) every-record);
       }

@@ -16,6 +16,7 @@ use Rattle.file.specs.declared.FileAnswer.{FileAnswer}
 use Rattle.codec.specs.Parts.{partsOf}
 use Rattle.file.specs.Verdict.{Verdict, refused, accepted, verdictOf, fileValues}
 use Rattle.listing_text.specs.Text.{firstLetter, secondLetter, linesText, listingOf, pageOf}
+use Rattle.records.specs.Forms.{newForm, newUnit}
 
 -- a text was written into the page from a place on, which led to the place behind it; every other byte is as it was
 pub record Wrote (page : List ℕ) (at : ℕ) (text : List ℕ) (next : ℕ) (left : List ℕ) : Type 0 where
@@ -45,14 +46,14 @@ SmallIndex (accepted o) = Unit {0}
 
 -- a file judged, and a text written from the start of the page on; of an accepted file the text is the lines of its visits, and its day and duration are within 1 to 40,177
 pub record JudgesInto (s page : List ℕ) (a : FileAnswer) (n : ℕ) (left : List ℕ) : Type 0 where
-  pub answer : fileValues a ≡ verdictOf s
+  pub answer : fileValues a ≡ verdictOf newForm s
   pub index : SmallIndex (fileValues a)
   pub within : n ≤ mostLines
   pub text : List ℕ
   pub written : Wrote page 0 text n left
-  pub lines : (o : Outcome) → verdictOf s ≡ accepted o → ReadingWithin (outcome o) × (text ≡ linesText (linesInOrder (onStudyDays (map recordOfBytes (partsOf s)))))
+  pub lines : (o : Outcome) → verdictOf newForm s ≡ accepted o → ReadingWithin (outcome o) × (text ≡ linesText (linesInOrder (onStudyDays newUnit (map (recordOfBytes newForm) (partsOf newForm s)))))
 
 -- the promise of listing: how many bytes, and the whole page
 pub record ListsFile (s page : List ℕ) (n : ℕ) (left : List ℕ) : Type 0 where
-  pub count : n ≡ length (listingOf s)
+  pub count : n ≡ length (listingOf newForm s)
   pub whole : left ≡ pageOf s page

@@ -99,7 +99,7 @@ pub(crate) fn put_lines(page: &mut [u8], at: usize, answer: AddAnswer) -> usize
     match answer {
         AddAnswer::Done => at,
         AddAnswer::Judged(v) => put_visit(page, at, v),
-        AddAnswer::NotElevenBytes => at,
+        AddAnswer::WrongLength => at,
         AddAnswer::NoSuchKind => at,
         AddAnswer::SecondBaseline => at,
         AddAnswer::AfterDeath => at,

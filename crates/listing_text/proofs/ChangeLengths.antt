@@ -18,7 +18,7 @@ use Rattle.response_rules.specs.Inputs.{Visit}
 use Rattle.response_rules.specs.SumOfDiameters.{sumWhere, sumOfDiameters, baselineSum, allMeasured}
 use Rattle.response_rules.specs.Change.{Tenths, none, signed, nearest, roundedChange, changeBetween, changeOf}
 use Rattle.outcome_rules.proofs.CompleteVisit.{limits-and-zeros}
-use Rattle.outcome_rules.specs.StudyRecords.{Baseline, baseline, visit, disease, entryOfBaseline, entryOfVisit, fieldsPass}
+use Rattle.outcome_rules.specs.StudyRecords.{Baseline, baseline, visit, disease, entryOfBaseline, entryOfVisit, baselinePasses, fieldsPass}
 use Rattle.outcome_rules.specs.LawfulLists.{measuredBeyond, fitsBy, fits}
 use Rattle.listing_text.specs.Text.{tenthsText, changeText}
 use Rattle.listing_text.proofs.TextLengths.{tenths-length}
@@ -64,29 +64,29 @@ none-short = record { tenths = omega arith; text = omega arith }
 
 -- ---- from a baseline, with a visit that fits it
 
--- a size within the count of a baseline is at least 10
-least-ten : (count i : ℕ) (node : Bool) (size : ℕ) → i < count → sizeOutsideLimits count i node size ≡ false → 10 ≤ size
+-- a size within the count of a baseline is at least 10 mm
+least-ten : (unit count i : ℕ) (node : Bool) (size : ℕ) → i < count → sizeOutsideLimits unit count i node size ≡ false → 10 * unit ≤ size
 unfolding sizeOutsideLimits
-least-ten count i node size l e =
-    go node (ltb-false size (leastSize node) (either-false (ltb size (leastSize node)) (ltb largestSize size) (rw (lt-ltb i count l) at e) .0))
+least-ten unit count i node size l e =
+    go node (ltb-false size (leastSize unit node) (either-false (ltb size (leastSize unit node)) (ltb (largestSize unit) size) (rw (lt-ltb i count l) at e) .0))
   where
-    go : (node : Bool) → leastSize node ≤ size → 10 ≤ size
+    go : (node : Bool) → leastSize unit node ≤ size → 10 * unit ≤ size
     go true h = omega arith
     go false h = omega arith
 
-size-within : (b : Baseline) → fieldsPass (baseline b) ≡ true → (i : ℕ) → i < mostTargets → i < b .count → 10 ≤ getD (b .sizes) i 0
+size-within : (b : Baseline) → baselinePasses b ≡ true → (i : ℕ) → i < mostTargets → i < b .count → 10 * b .unit ≤ getD (b .sizes) i 0
 unfolding outsideLimits notZero withoutDisease
 size-within b passes i l c = go (b .assessed) refl
   where
-    own : (outsideLimits (E.Baseline (entryOfBaseline b)) (b .nodes) (b .sizes) ≡ false) × (notZero (E.Baseline (entryOfBaseline b)) (b .nodes) (b .sizes) ≡ false)
-    own = limits-and-zeros (E.Baseline (entryOfBaseline b)) (b .nodes) (b .sizes) passes
+    own : (outsideLimits (b .unit) (E.Baseline (entryOfBaseline b)) (b .nodes) (b .sizes) ≡ false) × (notZero (E.Baseline (entryOfBaseline b)) (b .nodes) (b .sizes) ≡ false)
+    own = limits-and-zeros (b .unit) (E.Baseline (entryOfBaseline b)) (b .nodes) (b .sizes) passes
 
-    go : (a : Bool) → b .assessed ≡ a → 10 ≤ getD (b .sizes) i 0
+    go : (a : Bool) → b .assessed ≡ a → 10 * b .unit ≤ getD (b .sizes) i 0
     go true q =
         let limits = either-false (ltb mostTargets (b .count)) _ (rw q at (own .0)) in
         let wrong = either-false (withoutDisease (entryOfBaseline b)) _ (limits .1) in
-        least-ten (b .count) i (getD (b .nodes) i false) (getD (b .sizes) i 0) c
-        (some-none (targetAt (sizeOutsideLimits (b .count)) (b .nodes) (b .sizes)) mostTargets (wrong .1) i l)
+        least-ten (b .unit) (b .count) i (getD (b .nodes) i false) (getD (b .sizes) i 0) c
+        (some-none (targetAt (sizeOutsideLimits (b .unit) (b .count)) (b .nodes) (b .sizes)) mostTargets (wrong .1) i l)
     go false q =
         let zeros = either-false (b .nontarget) _ (rw q at (own .1)) in
         let count = ltb-false 0 (b .count) (either-false (ltb 0 (b .count)) _ (zeros .1) .0) in
@@ -98,7 +98,7 @@ sum-fiftyfold : (f g : ℕ → Bool) (s t : List ℕ) (n : ℕ) → ((i : ℕ) �
 sum-fiftyfold f g s t zero h = omega arith
 sum-fiftyfold f g s t (suc n) h = omega (arith, sum-fiftyfold f g s t n (λ i l. h i (omega arith)), h n (omega arith))
 
-module _ (b : Baseline) (d : ℕ) (v : Visit) (base : fieldsPass (baseline b) ≡ true) (passes : fieldsPass (visit d v) ≡ true) (fitting : fits b v ≡ true) where
+module _ (b : Baseline) (d : ℕ) (v : Visit) (base : baselinePasses b ≡ true) (passes : fieldsPass (b .unit) (visit d v) ≡ true) (fitting : fits b v ≡ true) where
   none-beyond : measuredBeyond (b .count) (v .measured) ≡ false
   unfolding fits fitsBy
   none-beyond = not-true (measuredBeyond (b .count) (v .measured)) (both-true (not (measuredBeyond (b .count) (v .measured))) _ fitting .0)
@@ -113,12 +113,12 @@ module _ (b : Baseline) (d : ℕ) (v : Visit) (base : fieldsPass (baseline b) �
       go true q e = absurd (never e)
       go false q e = leb-false (b .count) i q
 
-  measured-small : (i : ℕ) → i < mostTargets → getD (v .measured) i false ≡ true → getD (v .sizes) i 0 ≤ largestSize
+  measured-small : (i : ℕ) → i < mostTargets → getD (v .measured) i false ≡ true → getD (v .sizes) i 0 ≤ largestSize (b .unit)
   unfolding outsideLimits measuredOutsideLimits
   measured-small i l m =
-      let large = some-none (targetAt (λ (i : ℕ). measuredOutsideLimits) (v .measured) (v .sizes)) mostTargets
-      (limits-and-zeros (E.Visit (entryOfVisit v)) (v .measured) (v .sizes) passes .0) i l in
-      ltb-false largestSize (getD (v .sizes) i 0) (rw m at large)
+      let large = some-none (targetAt (λ (i : ℕ). measuredOutsideLimits (b .unit)) (v .measured) (v .sizes)) mostTargets
+      (limits-and-zeros (b .unit) (E.Visit (entryOfVisit v)) (v .measured) (v .sizes) passes .0) i l in
+      ltb-false (largestSize (b .unit)) (getD (v .sizes) i 0) (rw m at large)
 
   sum-most : sumOfDiameters (v .measured) (v .sizes) ≤ 50 * baselineSum (b .count) (b .sizes)
   unfolding sumOfDiameters baselineSum

@@ -14,6 +14,7 @@ use Rattle.outcome_rules.specs.FurtherExamples.{visit43, visit85, visit127}
 use Rattle.file.specs.Verdict as F
 use Rattle.file.specs.Examples.{printedFile, printedOutcome}
 use Rattle.listing_text.specs.Text.{changeText, visitText, bestText, durationText, settledText, outcomeText, refusalText, listingText, listingOf, pageOf}
+use Rattle.records.specs.Forms.{newForm}
 
 -- V 43 PR NN PR -40.0 and V 127 PD NN PD -75.0
 abbrev firstVisit : VisitLine
@@ -87,7 +88,7 @@ pub record LinesAtTheEdges : Type 0 where
       ≡ visitText firstVisit ++ (visitText secondVisit ++ (visitText lastVisit ++ outcomeText printedOutcome))
   pub stopped : listingText (F.refused 11 1) (baseline withNode ∷ visit43 ∷ []) ≡ refusalText 11 1
   -- prints just
-  pub listing : listingOf printedFile ≡ visitText firstVisit ++ (visitText secondVisit ++ (visitText lastVisit ++ outcomeText printedOutcome))
+  pub listing : listingOf newForm printedFile ≡ visitText firstVisit ++ (visitText secondVisit ++ (visitText lastVisit ++ outcomeText printedOutcome))
   -- R 13 0 and R 9 10: no zero in front
   pub refused : refusalText 13 0 ≡ 82 ∷ 32 ∷ 49 ∷ 51 ∷ 32 ∷ 48 ∷ 10 ∷ []
   pub index10 : refusalText 9 10 ≡ 82 ∷ 32 ∷ 57 ∷ 32 ∷ 49 ∷ 48 ∷ 10 ∷ []

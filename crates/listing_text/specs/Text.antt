@@ -5,6 +5,7 @@ use mathlib.Core.Bool.{Bool}
 use mathlib.Core.List.{List, [], _∷_, _++_, map}
 use lib.ListN.{length, drop}
 use Rattle.laws.specs.Choice.{pick}
+use Rattle.records.specs.Forms.{Form, newForm}
 use Rattle.codec.specs.Reading.{recordOfBytes}
 use Rattle.response_rules.specs.Words.{Word, CR, PR, SD, PD, NE, NA, NN}
 use Rattle.response_rules.specs.Change.{Tenths}
@@ -97,8 +98,9 @@ abbrev pub listingText : Verdict → List StudyRecord → List ℕ
 listingText (refused number index) rs = refusalText number index
 listingText (accepted o) rs = linesText (linesInOrder rs) ++ outcomeText o
 
-unfoldable pub listingOf : List ℕ → List ℕ
-listingOf s = listingText (verdictOf s) (onStudyDays (map recordOfBytes (partsOf s)))
+-- of a file in either form of document 02, request 1
+unfoldable pub listingOf : Form → List ℕ → List ℕ
+listingOf form s = listingText (verdictOf form s) (onStudyDays (form .unit) (map (recordOfBytes form) (partsOf form s)))
 
 -- 3,999 lines of 24 and 47 for the rest
 abbrev pub longestListing : ℕ
@@ -106,4 +108,4 @@ longestListing = 96023
 
 -- a page of that length: the text, and every byte past it as it was
 unfoldable pub pageOf : List ℕ → List ℕ → List ℕ
-pageOf s page = listingOf s ++ drop (length (listingOf s)) page
+pageOf s page = listingOf newForm s ++ drop (length (listingOf newForm s)) page

@@ -13,6 +13,7 @@ use Rattle.dates.specs.declared.Date.{Date}
 use Rattle.records.specs.declared.Record.{Record}
 use Rattle.records.specs.Refusals.{refusalsOfRecord}
 use Rattle.records.proofs.NoOwnRefusal.{none-after-own}
+use Rattle.records.specs.Forms.{newUnit}
 use Rattle.outcome_rules.specs.Values.{isRecorded, dayValue}
 use Rattle.outcome_rules.specs.StudyRecords.{Baseline, StudyRecord, onStudyDay}
 use Rattle.outcome_rules.specs.LawfulLists.{Past, deathDay, lawfulBehind}
@@ -38,29 +39,29 @@ module _ (randomisation : Date) (b : Baseline) (p : Past) where
   abbrev pub held : Subject
   held = summary randomisation b p
 
-  module _ (inside : inRange held ≡ true) (r : Record) where
+  module _ (tenths : b .unit ≡ newUnit) (inside : inRange held ≡ true) (r : Record) where
     abbrev on-day : StudyRecord
-    on-day = onStudyDay randomisation r
+    on-day = onStudyDay newUnit randomisation r
 
     -- 3 to 5, then 8 to 11 judged against the list
     abbrev pub refusal : ℕ
-    refusal = first (refusalsOfRecord r ++ refusalsOfStudyRecord b p on-day)
+    refusal = first (refusalsOfRecord newUnit r ++ refusalsOfStudyRecord b p on-day)
 
     pub refusal-held : refusalOfAddingHeld held r ≡ refusal
     unfolding refusalOfAddingHeld summary
-    refusal-held = rw inside (ap (λ (rs : List Refusal). first (refusalsOfRecord r ++ rs)) (refusals-follow randomisation b p (r .entry) (r .marks) (r .sizes)))
+    refusal-held = rw inside (ap (λ (rs : List Refusal). first (refusalsOfRecord newUnit r ++ rs)) (refusals-follow randomisation b p tenths (r .entry) (r .marks) (r .sizes)))
 
     -- the responses that an addition answers are those of the list
     pub responses-held : responsesBy held r (refusalOfAddingHeld held r) ≡ pick (eqb refusal 0) (linesOfRecord b p on-day) []
     unfolding summary
-    responses-held = λ i. pick (eqb (refusal-held i) 0) (lines-follow randomisation b p (r .entry) (r .marks) (r .sizes) i) []
+    responses-held = λ i. pick (eqb (refusal-held i) 0) (lines-follow randomisation b p tenths (r .entry) (r .marks) (r .sizes) i) []
 
     pub longer-lawful : lawfulBehind b p ≡ true → eqb refusal 0 ≡ true → lawfulBehind b (on-day ∷ p) ≡ true
-    longer-lawful l e = one-more b p on-day l .0 (none-after-own r (refusalsOfStudyRecord b p on-day) .0 (eqb-true refusal 0 e) .1)
+    longer-lawful l e = one-more b p on-day l .0 (none-after-own newUnit r (refusalsOfStudyRecord b p on-day) .0 (eqb-true refusal 0 e) .1)
 
     pub added-held : lawfulBehind b p ≡ true → eqb refusal 0 ≡ true → subjectBy held r (refusalOfAddingHeld held r) ≡ summary randomisation b (on-day ∷ p)
     unfolding summary
-    added-held l e = rw (refusal-held, e) (adding-follows randomisation b p (r .entry) (r .marks) (r .sizes) (longer-lawful l e))
+    added-held l e = rw (refusal-held, e) (adding-follows randomisation b p tenths (r .entry) (r .marks) (r .sizes) (longer-lawful l e))
 
     pub refused-held : eqb refusal 0 ≡ false → subjectBy held r (refusalOfAddingHeld held r) ≡ held
     unfolding summary

@@ -14,6 +14,7 @@ use Rattle.records.specs.declared.Entry.the-variants as E
 use Rattle.records.specs.declared.Record.{Record}
 use Rattle.records.specs.Refusals.{refusalsOfRecord}
 use Rattle.records.proofs.NoOwnRefusal.{Passes, passes, after-own, none-after-own, small-baseline}
+use Rattle.records.specs.Forms.{newForm, newUnit}
 use Rattle.codec.specs.Reading.{refusalsOfBytes, refusalOfBytes, recordOfBytes}
 use Rattle.codec.proofs.NoRefusalOfBytes.{after-reading, found-fine}
 use Rattle.response_rules.specs.Words.{Word}
@@ -42,7 +43,7 @@ use Rattle.outcome.specs.Laws.{DurationWithin, ReadingWithin, CallsInRan
 
 -- ---- opening
 
-first-within : (e : Entry) (marks : List Bool) (sizes : List ℕ) → Passes (record { entry = e; sizes = sizes; marks = marks }) false false →
+first-within : (e : Entry) (marks : List Bool) (sizes : List ℕ) → Passes newUnit (record { entry = e; sizes = sizes; marks = marks }) false false →
     first (7 when notBaseline e ∷ []) ≡ 0 → SubjectWithin (subjectOfEntry e marks sizes)
 first-within (E.Baseline b) marks sizes own q =
     let small = small-baseline b marks sizes (own .limits) (own .zeros) in
@@ -51,11 +52,11 @@ first-within (E.Visit v) marks sizes own q = absurd (let w : ⊥ = omega arith i
 first-within (E.Therapy d) marks sizes own q = absurd (let w : ⊥ = omega arith in w)
 first-within (E.Death d) marks sizes own q = absurd (let w : ⊥ = omega arith in w)
 
-opened-within : (r : Record) → refusalOfOpening r ≡ 0 → SubjectWithin (openedSubject r)
+opened-within : (r : Record) → refusalOfOpening newUnit r ≡ 0 → SubjectWithin (openedSubject r)
 unfolding openedSubject refusalsOfOpening
 opened-within r e =
-    let parts = none-after-own r _ .0 e in
-    rw (eq-eqb (refusalOfOpening r) 0 e) (first-within (r .entry) (r .marks) (r .sizes) (passes r false false (parts .0)) (parts .1))
+    let parts = none-after-own newUnit r _ .0 e in
+    rw (eq-eqb (refusalOfOpening newUnit r) 0 e) (first-within (r .entry) (r .marks) (r .sizes) (passes newUnit r false false (parts .0)) (parts .1))
 
 pub opened-in-range : {r : Record} {a : OpenAnswer} {s : Subject} → Opens r a s → openNumber a ≡ 0 → inRange s ≡ true
 opened-in-range {r} {a} {s} w z = rw (w .made) (in-range (openedSubject r) (opened-within r (sym (w .answer) ∙ z)))
@@ -69,13 +70,13 @@ added-in-range {s} {t} {r} w h = rw (w .left) (go (eqb (refusalOfAddingHeld s r)
     go : (x : Bool) → eqb (refusalOfAddingHeld s r) 0 ≡ x → inRange (pick x (addedHeld s r) s) ≡ true
     go false e = h
     go true e =
-        let none : first (refusalsOfRecord r ++ refusalsOfRecordHeld s r) ≡ 0 = rw h at (eqb-true (refusalOfAddingHeld s r) 0 e) in
+        let none : first (refusalsOfRecord newUnit r ++ refusalsOfRecordHeld s r) ≡ 0 = rw h at (eqb-true (refusalOfAddingHeld s r) 0 e) in
         let within = subject-within s h in
         in-range (addedHeld s r)
         (record {
           enrolment = within .enrolment;
           followup =
-              adding-within (s .enrolment) (s .followup) (r .entry) (r .marks) (r .sizes) (within .followup) (none-after-own r (refusalsOfRecordHeld s r) .0 none .1);
+              adding-within (s .enrolment) (s .followup) (r .entry) (r .marks) (r .sizes) (within .followup) (none-after-own newUnit r (refusalsOfRecordHeld s r) .0 none .1);
         })
 
 -- ---- reading
@@ -137,22 +138,22 @@ module _ {s t : Subject} {r : Record} {n : ℕ} {a : AddAnswer} (w : Answered s 
 not-added : {s t : Subject} {r : Record} {a : AddAnswer} → Adds s r a t → (addNumber a ≡ 0 → ⊥) → t ≡ s
 not-added w z = kept w z
 
-from-bytes : {s t : Subject} {bytes : List ℕ} {a : AddAnswer} → AddsBytes s bytes a t → refusalOfBytes bytes ≡ 0 → Adds s (recordOfBytes bytes) a t
+from-bytes : {s t : Subject} {bytes : List ℕ} {a : AddAnswer} → AddsBytes s bytes a t → refusalOfBytes newForm bytes ≡ 0 → Adds s (recordOfBytes newForm bytes) a t
 unfolding refusalOfAddingHeld refusalOfAddingBytesHeld
 from-bytes {s} {t} {bytes} {a} w e =
-    let r = recordOfBytes bytes in
+    let r = recordOfBytes newForm bytes in
     let behind = refusalsOfRecordHeld s r in
-    let read : first (refusalsOfBytes bytes ++ behind) ≡ first behind = after-reading bytes behind ∙ rw e in
-    let own : first (refusalsOfRecord r ++ behind) ≡ first behind = after-own r behind ∙ rw (found-fine bytes (w .octets) e) in
+    let read : first (refusalsOfBytes newForm bytes ++ behind) ≡ first behind = after-reading newForm bytes behind ∙ rw e in
+    let own : first (refusalsOfRecord newUnit r ++ behind) ≡ first behind = after-own newUnit r behind ∙ rw (found-fine newForm bytes (w .octets) e) in
     let same : refusalOfAddingBytesHeld s bytes ≡ refusalOfAddingHeld s r = ap (pick (not (inRange s)) 12) (read ∙ sym own) in
-    subst (λ (n : ℕ). Answered s (recordOfBytes bytes) n a t) same (w .added)
+    subst (λ (n : ℕ). Answered s (recordOfBytes newForm bytes) n a t) same (w .added)
 
-not-from-bytes : {s t : Subject} {bytes : List ℕ} {a : AddAnswer} → AddsBytes s bytes a t → inRange s ≡ true → (refusalOfBytes bytes ≡ 0 → ⊥) →
-    (addNumber a ≡ refusalOfBytes bytes) × (addResponses a ≡ []) × (t ≡ s)
+not-from-bytes : {s t : Subject} {bytes : List ℕ} {a : AddAnswer} → AddsBytes s bytes a t → inRange s ≡ true → (refusalOfBytes newForm bytes ≡ 0 → ⊥) →
+    (addNumber a ≡ refusalOfBytes newForm bytes) × (addResponses a ≡ []) × (t ≡ s)
 unfolding refusalOfAddingBytesHeld
 not-from-bytes {s} {t} {bytes} {a} w h z =
-    let outcomeRead : refusalOfAddingBytesHeld s bytes ≡ refusalOfBytes bytes =
-    rw h (after-reading bytes (refusalsOfRecordHeld s (recordOfBytes bytes)) ∙ rw (ne-eqb (refusalOfBytes bytes) 0 z)) in
+    let outcomeRead : refusalOfAddingBytesHeld s bytes ≡ refusalOfBytes newForm bytes =
+    rw h (after-reading newForm bytes (refusalsOfRecordHeld s (recordOfBytes newForm bytes)) ∙ rw (ne-eqb (refusalOfBytes newForm bytes) 0 z)) in
     let number = w .added .answer ∙ outcomeRead in
     let refused : addNumber a ≡ 0 → ⊥ = λ e. z (sym number ∙ e) in
     (number, no-responses (w .added) refused, kept (w .added) refused)
@@ -179,7 +180,7 @@ unfolding openedSubject
 calls-in-range =
     record {
       opened = opened-in-range;
-      notOpened = λ {r} w n. w .made ∙ rw (ne-eqb (refusalOfOpening r) 0 (λ e. n (w .answer ∙ e)));
+      notOpened = λ {r} w n. w .made ∙ rw (ne-eqb (refusalOfOpening newUnit r) 0 (λ e. n (w .answer ∙ e)));
       added = added-in-range;
       notAdded = not-added;
       notAnswered = λ w z. no-responses w z;

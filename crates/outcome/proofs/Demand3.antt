@@ -16,6 +16,7 @@ use Rattle.records.specs.declared.Record.{Record}
 use Rattle.records.specs.Entries.{Five}
 use Rattle.records.specs.Refusals.{refusalsOfRecord}
 use Rattle.records.proofs.NoOwnRefusal.{each-own, none-after-own}
+use Rattle.records.specs.Forms.{newUnit}
 use Rattle.outcome_rules.specs.StudyRecords.{Baseline, StudyRecord, onStudyDay, onStudyDays}
 use Rattle.outcome_rules.specs.LawfulLists.{Past, lawfulBehind}
 use Rattle.outcome_rules.specs.MarksExact.{MarksExactOn}
@@ -53,7 +54,7 @@ module _ (x : BaselineEntry) (marks : List Bool) (sizes : List ℕ) where
   base = baselineOf x marks sizes
 
   abbrev pub on-day : Record → StudyRecord
-  on-day = onStudyDay (x .date)
+  on-day = onStudyDay newUnit (x .date)
 
   -- the records behind the baseline, newest first
   abbrev pub past : List Record → Past
@@ -73,70 +74,70 @@ module _ (x : BaselineEntry) (marks : List Bool) (sizes : List ℕ) where
 
   -- ---- adding
 
-  not-12 : (rs : List Record) (r : Record) → Not12 (refusalOfAdding (opened-with ∷ rs) r)
+  not-12 : (rs : List Record) (r : Record) → Not12 (refusalOfAdding newUnit (opened-with ∷ rs) r)
   unfolding refusalsOfAdding
   not-12 rs r =
-      let own = each-own Not12 (λ e. omega arith) (λ e. omega arith) (λ e. omega arith) r false false in
+      let own = each-own newUnit Not12 (λ e. omega arith) (λ e. omega arith) (λ e. omega arith) r false false in
       let behind = each-behind Not12 (λ e. omega arith) (λ e. omega arith) (λ e. omega arith) (λ e. omega arith) base (past rs) (on-day r) in
-      among Not12 (refusalsOfRecord r ++ refusalsOfStudyRecord base (past rs) (on-day r)) (λ e. omega arith)
-      (each-append Not12 (refusalsOfRecord r) (refusalsOfStudyRecord base (past rs) (on-day r)) own behind)
+      among Not12 (refusalsOfRecord newUnit r ++ refusalsOfStudyRecord base (past rs) (on-day r)) (λ e. omega arith)
+      (each-append Not12 (refusalsOfRecord newUnit r) (refusalsOfStudyRecord base (past rs) (on-day r)) own behind)
 
   module _ (rs : List Record) (r : Record) {s t : Subject} {a : AddAnswer} (h : Held rs s) (w : Adds s r a t) where
     inside : inRange (held-after rs) ≡ true
     inside = ap inRange (sym (h .same)) ∙ h .inside
 
-    pub number : addNumber a ≡ refusalOfAdding (opened-with ∷ rs) r
+    pub number : addNumber a ≡ refusalOfAdding newUnit (opened-with ∷ rs) r
     unfolding refusalsOfAdding
-    number = w .answer ∙ ap (λ (u : Subject). refusalOfAddingHeld u r) (h .same) ∙ refusal-held (x .date) base (past rs) inside r
+    number = w .answer ∙ ap (λ (u : Subject). refusalOfAddingHeld u r) (h .same) ∙ refusal-held (x .date) base (past rs) refl inside r
 
     next : t ≡ subjectBy (held-after rs) r (refusalOfAddingHeld (held-after rs) r)
     next = w .left ∙ ap (λ (u : Subject). subjectBy u r (refusalOfAddingHeld u r)) (h .same)
 
-    pub responses : addResponses a ≡ responsesOfAdding (opened-with ∷ rs) r
+    pub responses : addResponses a ≡ responsesOfAdding newUnit (opened-with ∷ rs) r
     unfolding refusalsOfAdding
-    responses = w .responses ∙ ap (λ (u : Subject). responsesBy u r (refusalOfAddingHeld u r)) (h .same) ∙ responses-held (x .date) base (past rs) inside r
+    responses = w .responses ∙ ap (λ (u : Subject). responsesBy u r (refusalOfAddingHeld u r)) (h .same) ∙ responses-held (x .date) base (past rs) refl inside r
 
-    kept : eqb (refusalOfAdding (opened-with ∷ rs) r) 0 ≡ false → Held rs t
+    kept : eqb (refusalOfAdding newUnit (opened-with ∷ rs) r) 0 ≡ false → Held rs t
     unfolding refusalsOfAdding
     kept e =
         record {
-          same = next ∙ refused-held (x .date) base (past rs) inside r e;
+          same = next ∙ refused-held (x .date) base (past rs) refl inside r e;
           inside = calls-in-range .added w (h .inside);
           lawfully = h .lawfully;
         }
 
-    pub one-more-held : eqb (refusalOfAdding (opened-with ∷ rs) r) 0 ≡ true → Held (rs ++ (r ∷ [])) t
+    pub one-more-held : eqb (refusalOfAdding newUnit (opened-with ∷ rs) r) 0 ≡ true → Held (rs ++ (r ∷ [])) t
     unfolding refusalsOfAdding
     one-more-held e =
         record {
-          same = next ∙ added-held (x .date) base (past rs) inside r (h .lawfully) e ∙ ap (summary (x .date) base) (sym (past-one-more rs r));
+          same = next ∙ added-held (x .date) base (past rs) refl inside r (h .lawfully) e ∙ ap (summary (x .date) base) (sym (past-one-more rs r));
           inside = calls-in-range .added w (h .inside);
-          lawfully = ap (lawfulBehind base) (past-one-more rs r) ∙ longer-lawful (x .date) base (past rs) inside r (h .lawfully) e;
+          lawfully = ap (lawfulBehind base) (past-one-more rs r) ∙ longer-lawful (x .date) base (past rs) refl inside r (h .lawfully) e;
         }
 
   -- ---- reading
 
-  pub reading : (rs : List Record) {s : Subject} {o : OutcomeAnswer} → Held rs s → ReadsOutcome s o → readingValues o ≡ outcomeOn (onStudyDays (opened-with ∷ rs))
+  pub reading : (rs : List Record) {s : Subject} {o : OutcomeAnswer} → Held rs s → ReadsOutcome s o → readingValues o ≡ outcomeOn (onStudyDays newUnit (opened-with ∷ rs))
   reading rs {s} h w = w .answer ∙ reading-in-range s (h .inside) ∙ ap outcome (ap outcomeOf (h .same) ∙ outcome-held (x .date) base (past rs))
 
   -- ---- a list of calls
 
   record After (rs : List Record) (cs : List Call) (ys : List Reply) (t : Subject) : Type 0 where
     last : List Record
-    behind : acceptedAfter (opened-with ∷ rs) cs ≡ opened-with ∷ last
+    behind : acceptedAfter newUnit (opened-with ∷ rs) cs ≡ opened-with ∷ last
     replied : ys ≡ repliesAfter (opened-with ∷ rs) cs
     without12 : Without12 ys
     held : Held last t
 
-  module _ (rs : List Record) (r : Record) {cs : List Call} {ys : List Reply} {n : ℕ} {ls : List VisitLine} {u : Subject} (e : n ≡ refusalOfAdding (opened-with ∷ rs) r)
-      (f : ls ≡ responsesOfAdding (opened-with ∷ rs) r) where
+  module _ (rs : List Record) (r : Record) {cs : List Call} {ys : List Reply} {n : ℕ} {ls : List VisitLine} {u : Subject} (e : n ≡ refusalOfAdding newUnit (opened-with ∷ rs) r)
+      (f : ls ≡ responsesOfAdding newUnit (opened-with ∷ rs) r) where
     -- the records accepted are those accepted so far, or those and one more
-    one-call : (ss : List Record) → pick (eqb (refusalOfAdding (opened-with ∷ rs) r) 0) (opened-with ∷ rs ++ (r ∷ [])) (opened-with ∷ rs) ≡ opened-with ∷ ss → After ss cs ys u →
+    one-call : (ss : List Record) → pick (eqb (refusalOfAdding newUnit (opened-with ∷ rs) r) 0) (opened-with ∷ rs ++ (r ∷ [])) (opened-with ∷ rs) ≡ opened-with ∷ ss → After ss cs ys u →
         After rs (add r ∷ cs) (added n ls ∷ ys) u
     one-call ss q later =
         record {
           last = later .last;
-          behind = ap (λ (l : List Record). acceptedAfter l cs) q ∙ later .behind;
+          behind = ap (λ (l : List Record). acceptedAfter newUnit l cs) q ∙ later .behind;
           replied =
               let rest = later .replied ∙ ap (λ (l : List Record). repliesAfter l cs) (sym q) in
               λ i. added (e i) (f i) ∷ rest i;
@@ -147,9 +148,9 @@ module _ (x : BaselineEntry) (marks : List Bool) (sizes : List ℕ) where
   after : (rs : List Record) {s t : Subject} {cs : List Call} {ys : List Reply} → Held rs s → Calls s cs ys t → After rs cs ys t
   after rs h none = record { last = rs; behind = refl; replied = refl; without12 = tt; held = h }
   after rs h (adds {t = t} {u = u} {r = r} {a = a} {cs = cs} {ys = ys} w c) =
-      go (eqb (refusalOfAdding (opened-with ∷ rs) r) 0) refl (λ k. after (rs ++ (r ∷ [])) k c) (λ k. after rs k c)
+      go (eqb (refusalOfAdding newUnit (opened-with ∷ rs) r) 0) refl (λ k. after (rs ++ (r ∷ [])) k c) (λ k. after rs k c)
     where
-      go : (z : Bool) → eqb (refusalOfAdding (opened-with ∷ rs) r) 0 ≡ z → (Held (rs ++ (r ∷ [])) t → After (rs ++ (r ∷ [])) cs ys u) →
+      go : (z : Bool) → eqb (refusalOfAdding newUnit (opened-with ∷ rs) r) 0 ≡ z → (Held (rs ++ (r ∷ [])) t → After (rs ++ (r ∷ [])) cs ys u) →
           (Held rs t → After rs cs ys u) → After rs (add r ∷ cs) (added (addNumber a) (addResponses a) ∷ ys) u
       go true e more same = one-call rs r (number rs r h w) (responses rs r h w) (rs ++ (r ∷ [])) (rw e) (more (one-more-held rs r h w e))
       go false e more same = one-call rs r (number rs r h w) (responses rs r h w) rs (rw e) (same (kept rs r h w e))
@@ -166,9 +167,9 @@ module _ (x : BaselineEntry) (marks : List Bool) (sizes : List ℕ) where
 
   -- ---- the claim
 
-  claim : (ss : List Record) {t : Subject} {o : OutcomeAnswer} → Held ss t → ReadsOutcome t o → MarksExactOn (onStudyDays (opened-with ∷ ss)) → Claim o (opened-with ∷ ss)
+  claim : (ss : List Record) {t : Subject} {o : OutcomeAnswer} → Held ss t → ReadsOutcome t o → MarksExactOn (onStudyDays newUnit (opened-with ∷ ss)) → Claim o (opened-with ∷ ss)
   claim ss h w exact =
-      subst (λ (y : Reading). ReportsOn y (onStudyDays (opened-with ∷ ss))) (sym (reading ss h w))
+      subst (λ (y : Reading). ReportsOn y (onStudyDays newUnit (opened-with ∷ ss))) (sym (reading ss h w))
       (record {
         pfs = refl;
         best = refl;
@@ -178,11 +179,11 @@ module _ (x : BaselineEntry) (marks : List Bool) (sizes : List ℕ) where
         durationMark = exact .duration;
       })
 
-  holds-from : {s t : Subject} {cs : List Call} {ys : List Reply} {o : OutcomeAnswer} → Five opened-with → refusalOfOpening opened-with ≡ 0 → Held [] s → Calls s cs ys t →
+  holds-from : {s t : Subject} {cs : List Call} {ys : List Reply} {o : OutcomeAnswer} → Five opened-with → refusalOfOpening newUnit opened-with ≡ 0 → Held [] s → Calls s cs ys t →
       ReadsOutcome t o → Holds opened-with cs ys o
   holds-from {cs = cs} {o = o} five accepts h c w =
       let all = after [] h c in
-      let exact = subst (λ (l : List Record). MarksExactOn (onStudyDays l)) (all .behind) (accepted-exact opened-with cs five accepts) in
+      let exact = subst (λ (l : List Record). MarksExactOn (onStudyDays newUnit l)) (all .behind) (accepted-exact opened-with cs five accepts) in
       record {
         replied = all .replied;
         without12 = all .without12;
@@ -193,7 +194,7 @@ module _ (x : BaselineEntry) (marks : List Bool) (sizes : List ℕ) where
 -- what an accepted opening made
 module _ {a : OpenAnswer} {s t : Subject} {cs : List Call} {ys : List Reply} (z : openNumber a ≡ 0) (c : Calls s cs ys t) where
   module _ (x : BaselineEntry) (marks : List Bool) (sizes : List ℕ) (w : Opens (opened-with x marks sizes) a s) where
-    accepts : refusalOfOpening (opened-with x marks sizes) ≡ 0
+    accepts : refusalOfOpening newUnit (opened-with x marks sizes) ≡ 0
     accepts = sym (w .answer) ∙ z
 
     opening-held : Held x marks sizes [] s
@@ -207,7 +208,7 @@ module _ {a : OpenAnswer} {s t : Subject} {cs : List Call} {ys : List Reply} (z 
       ((x : BaselineEntry) (marks : List Bool) (sizes : List ℕ) → Opens (opened-with x marks sizes) a s → Claimed (opened-with x marks sizes)) →
       (r : Record) → Opens r a s → Claimed r
   unfolding refusalsOfOpening
-  from-baseline Claimed of-baseline r w = go (r .entry) w (none-after-own r _ .0 (sym (w .answer) ∙ z) .1)
+  from-baseline Claimed of-baseline r w = go (r .entry) w (none-after-own newUnit r _ .0 (sym (w .answer) ∙ z) .1)
     where
       go : (e : Entry) → Opens (record { entry = e; sizes = r .sizes; marks = r .marks }) a s → first (7 when notBaseline e ∷ []) ≡ 0 →
           Claimed (record { entry = e; sizes = r .sizes; marks = r .marks })
@@ -221,9 +222,9 @@ module _ {a : OpenAnswer} {s t : Subject} {cs : List Call} {ys : List Reply} (z 
       from-baseline (λ (r : Record). Holds r cs ys o)
       (λ x marks sizes w. holds-from x marks sizes (w .five) (accepts x marks sizes w) (opening-held x marks sizes w) c q)
 
-  summarised : (r : Record) → Opens r a s → Summarises (accepted r cs) t
+  summarised : (r : Record) → Opens r a s → Summarises (accepted newUnit r cs) t
   summarised =
-      from-baseline (λ (r : Record). Summarises (accepted r cs) t)
+      from-baseline (λ (r : Record). Summarises (accepted newUnit r cs) t)
       (λ x marks sizes w.
       let all = after x marks sizes [] (opening-held x marks sizes w) c in
       subst (λ (rs : List Record). Summarises rs t) (sym (all .behind)) (all .held .same))

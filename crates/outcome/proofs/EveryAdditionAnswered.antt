@@ -19,6 +19,7 @@ use Rattle.records.specs.declared.Record.{Record}
 use Rattle.records.specs.declared.OwnRefusal.the-variants as N
 use Rattle.records.specs.Refusals.{refusalsOfRecord}
 use Rattle.records.proofs.NoOwnRefusal.{each-own}
+use Rattle.records.specs.Forms.{newUnit}
 use Rattle.response_rules.specs.declared.TargetAnswer.the-variants as T
 use Rattle.response_rules.specs.declared.OverallAnswer.the-variants as O
 use Rattle.response_rules.specs.declared.ChangeAnswer.the-variants as C
@@ -46,12 +47,12 @@ use Rattle.adding.specs.Promises.{studyDayHeld, refusalsOfRecordHeld, responses
 
 -- ---- the responses at a visit
 
-some-target : (b : BaselineDisease) (earlier : Earlier) (v : Visit) → Some targetWord (targetAnswer b earlier v)
+some-target : (b : BaselineDisease) (earlier : Earlier) (v : Visit) → Some targetWord (targetAnswer newUnit b earlier v)
 unfolding targetAnswer
 some-target b earlier v =
     pick-some targetWord (eqb (b .count) 0) _ _ (T.NA, refl)
-    (pick-some targetWord (both (allMeasured (b .count) (v .measured)) (allDisappeared (b .count) (b .nodes) (v .sizes))) _ _ (T.CR, refl)
-    (pick-some targetWord (progressionFromNadir (earlier .nadir) (sumOfDiameters (v .measured) (v .sizes))) _ _ (T.PD, refl)
+    (pick-some targetWord (both (allMeasured (b .count) (v .measured)) (allDisappeared newUnit (b .count) (b .nodes) (v .sizes))) _ _ (T.CR, refl)
+    (pick-some targetWord (progressionFromNadir newUnit (earlier .nadir) (sumOfDiameters (v .measured) (v .sizes))) _ _ (T.PD, refl)
     (pick-some targetWord (not (allMeasured (b .count) (v .measured))) _ _ (T.NE, refl)
     (pick-some targetWord (partialResponse (b .baselinesum) (sumOfDiameters (v .measured) (v .sizes))) _ _ (T.PR, refl) (T.SD, refl)))))
 
@@ -92,10 +93,10 @@ four w x y z = (w, (x, (y, (z, tt))))
 all-rows : AllRows grid
 all-rows = (four cr pr pr cr, (four pr pr pr pr, (four sd sd sd sd, (four ne ne ne ne, (four cr sd ne ne, tt)))))
 
-some-overall : (b : BaselineDisease) (earlier : Earlier) (v : Visit) → Some overallWord (overallAnswer b earlier v)
+some-overall : (b : BaselineDisease) (earlier : Earlier) (v : Visit) → Some overallWord (overallAnswer newUnit b earlier v)
 unfolding overallBy overallAnswer
 some-overall b earlier v =
-    let target = targetAnswer b earlier v in
+    let target = targetAnswer newUnit b earlier v in
     let nontarget = statusWord (v .status) in
     pick-some overallWord (not (b .assessed)) _ _ (O.NE, refl)
     (pick-some overallWord (either (v .newLesion) (either (isPD target) (isPD nontarget))) _ _ (O.PD, refl)
@@ -128,11 +129,11 @@ some-responses e f day v measured sizes =
 some-refusal : (s : Subject) (r : Record) → Some addNumber (refusalOfAddingHeld s r)
 unfolding refusalOfAddingHeld
 some-refusal s r =
-    let own = each-own (Some addNumber) (A.Refused N.NoSuchDate, refl) (A.Refused N.OutsideLimits, refl) (A.Refused N.NotZero, refl) r false false in
+    let own = each-own newUnit (Some addNumber) (A.Refused N.NoSuchDate, refl) (A.Refused N.OutsideLimits, refl) (A.Refused N.NotZero, refl) r false false in
     let behind = each-on (Some addNumber) (A.SecondBaseline, refl) (A.AfterDeath, refl) (A.TooEarly, refl) (A.Misfit, refl) (s .enrolment) (s .followup) (studyDayHeld s r)
     (r .entry) (r .marks) in
-    among (Some addNumber) (12 when not (inRange s) ∷ refusalsOfRecord r ++ refusalsOfRecordHeld s r) (A.Done, refl)
-    ((A.OutOfRange, refl), each-append (Some addNumber) (refusalsOfRecord r) (refusalsOfRecordHeld s r) own behind)
+    among (Some addNumber) (12 when not (inRange s) ∷ refusalsOfRecord newUnit r ++ refusalsOfRecordHeld s r) (A.Done, refl)
+    ((A.OutOfRange, refl), each-append (Some addNumber) (refusalsOfRecord newUnit r) (refusalsOfRecordHeld s r) own behind)
 
 -- ---- an answer
 
@@ -150,7 +151,7 @@ some-done e f day (E.Death d) marks sizes = (A.Done, refl, refl)
 none-beside : (a : AddAnswer) → eqb (addNumber a) 0 ≡ false → addResponses a ≡ []
 none-beside A.Done h = refl
 none-beside (A.Judged v) h = absurd (eqb-false 0 0 h refl)
-none-beside A.NotElevenBytes h = refl
+none-beside A.WrongLength h = refl
 none-beside A.NoSuchKind h = refl
 none-beside A.SecondBaseline h = refl
 none-beside A.AfterDeath h = refl

@@ -11,6 +11,7 @@ use Rattle.records.specs.declared.Record.{Record}
 use Rattle.records.specs.Entries.{Five}
 use Rattle.records.specs.Refusals.{refusalsOfRecord}
 use Rattle.records.proofs.NoOwnRefusal.{each-own}
+use Rattle.records.specs.Forms.{newUnit}
 use Rattle.outcome_rules.specs.declared.PfsStatus.the-variants as P
 use Rattle.outcome_rules.specs.declared.DurationAnswer.the-variants as D
 use Rattle.outcome_rules.specs.Values.{PfsWord, EVENT, CENSORED, Duration, noDuration, forDays, pfsStatusWord, durationValues}
@@ -30,9 +31,9 @@ use Rattle.outcome.proofs.EveryAdditionAnswered.{some-addition}
 pub opens : (b : Record) → Five b → (a : OpenAnswer) × (s : Subject) × Opens b a s
 unfolding refusalsOfOpening
 opens b five =
-    let own = each-own (Some openNumber) (N.Refused W.NoSuchDate, refl) (N.Refused W.OutsideLimits, refl) (N.Refused W.NotZero, refl) b false false in
+    let own = each-own newUnit (Some openNumber) (N.Refused W.NoSuchDate, refl) (N.Refused W.OutsideLimits, refl) (N.Refused W.NotZero, refl) b false false in
     let kind : Each (Some openNumber) (7 when notBaseline (b .entry) ∷ []) = ((N.NotBaseline, refl), tt) in
-    let answer = among (Some openNumber) (refusalsOfOpening b) (N.Done, refl) (each-append (Some openNumber) (refusalsOfRecord b) (7 when notBaseline (b .entry) ∷ []) own kind) in
+    let answer = among (Some openNumber) (refusalsOfOpening newUnit b) (N.Done, refl) (each-append (Some openNumber) (refusalsOfRecord newUnit b) (7 when notBaseline (b .entry) ∷ []) own kind) in
     (answer .0, openedSubject b, record { answer = answer .1; made = refl; five = five })
 
 some-status : (w : PfsWord) → Some pfsStatusWord w

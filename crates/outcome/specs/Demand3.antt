@@ -7,6 +7,7 @@ use mathlib.Core.Logic.{_↔_}
 use Prim.Native.Nat.{ℕ}
 use Rattle.records.specs.declared.Record.{Record}
 use Rattle.records.specs.Entries.{Five}
+use Rattle.records.specs.Forms.{newUnit}
 use Rattle.outcome_rules.specs.Values.{Outcome}
 use Rattle.outcome_rules.specs.StudyRecords.{Baseline, StudyRecord, onStudyDays, fromBaseline}
 use Rattle.outcome_rules.specs.LawfulLists.{lawful}
@@ -47,8 +48,8 @@ outcomeOn = fromBaseline (refused 7) (λ (b : Baseline) (rs : List StudyRecord).
 -- their outcome with its marks
 abbrev pub repliesAfter : List Record → List Call → List Reply
 repliesAfter rs [] = []
-repliesAfter rs (add r ∷ cs) = added (refusalOfAdding rs r) (responsesOfAdding rs r) ∷ repliesAfter (acceptedAfter rs (add r ∷ [])) cs
-repliesAfter rs (read ∷ cs) = outcomeRead (outcomeOn (onStudyDays rs)) ∷ repliesAfter rs cs
+repliesAfter rs (add r ∷ cs) = added (refusalOfAdding newUnit rs r) (responsesOfAdding newUnit rs r) ∷ repliesAfter (acceptedAfter newUnit rs (add r ∷ [])) cs
+repliesAfter rs (read ∷ cs) = outcomeRead (outcomeOn (onStudyDays newUnit rs)) ∷ repliesAfter rs cs
 
 abbrev pub replies : Record → List Call → List Reply
 replies b cs = repliesAfter (b ∷ []) cs
@@ -77,15 +78,15 @@ ReportsOn (outcome reported) rs = fromBaseline ⊥ (Reports reported) rs
 
 -- of a reading's answer and the records accepted, baseline first
 abbrev pub Claim : OutcomeAnswer → List Record → Type 0
-Claim o rs = ReportsOn (readingValues o) (onStudyDays rs)
+Claim o rs = ReportsOn (readingValues o) (onStudyDays newUnit rs)
 
 -- of a baseline opened with, the calls, their replies and the answer of a reading after the last of them: each call replied as the paper has it, 12 met none,
 -- the records accepted are a lawful list, and the reading reports the outcome of that list
 pub record Holds (b : Record) (cs : List Call) (ys : List Reply) (o : OutcomeAnswer) : Type 0 where
   pub replied : ys ≡ replies b cs
   pub without12 : Without12 ys
-  pub lawfully : lawful (onStudyDays (accepted b cs)) ≡ true
-  pub claim : Claim o (accepted b cs)
+  pub lawfully : lawful (onStudyDays newUnit (accepted newUnit b cs)) ≡ true
+  pub claim : Claim o (accepted newUnit b cs)
 
 -- some replies and some subject come of a list of calls
 pub record Runs (s : Subject) (cs : List Call) : Type 0 where

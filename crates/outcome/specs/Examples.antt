@@ -38,12 +38,12 @@ pub record FirstRefusals : Type 0 where
   -- 12 before the record's own, and these before 8 to 11
   pub outOfRange : refusalOfAddingHeld blankSubject (printedBaseline (ymd 2021 2 29)) ≡ 12
   pub withoutDate : refusalOfAddingHeld printedOpened (printedBaseline (ymd 2021 2 29)) ≡ 3
-  pub sizeUnmeasured : refusalOfAddingHeld printedOpened (visitDated (ymd 2020 1 1) S.NN false [] (12 ∷ [])) ≡ 5
+  pub sizeUnmeasured : refusalOfAddingHeld printedOpened (visitDated (ymd 2020 1 1) S.NN false [] (120 ∷ [])) ≡ 5
   pub secondBaseline : refusalOfAddingHeld printedOpened (printedBaseline (ymd 2020 1 1)) ≡ 8
   pub fitting : refusalOfAddingHeld printedOpened printedVisit43 ≡ 0
   -- the subject keeps every value where a refusal meets
   pub keptEarly : after printedAfterVisit43 (therapyDated (ymd 2020 2 11)) ≡ printedAfterVisit43
-  pub keptUnmeasured : after printedAfterVisit43 (visitDated (ymd 2020 3 25) S.NN false [] (12 ∷ [])) ≡ printedAfterVisit43
+  pub keptUnmeasured : after printedAfterVisit43 (visitDated (ymd 2020 3 25) S.NN false [] (120 ∷ [])) ≡ printedAfterVisit43
   pub keptOutOfRange : after blankSubject (therapyDated (ymd 2020 2 11)) ≡ blankSubject
   pub next : after printedOpened printedVisit43 ≡ printedAfterVisit43
   -- reading meets 12 only

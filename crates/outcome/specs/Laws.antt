@@ -5,6 +5,7 @@ use mathlib.Core.Bool.{true, false}
 use mathlib.Core.List.{List, []}
 use Prim.Native.Nat.{ℕ}
 use Rattle.records.specs.declared.Record.{Record}
+use Rattle.records.specs.Forms.{newForm}
 use Rattle.codec.specs.Reading.{refusalOfBytes, recordOfBytes}
 use Rattle.outcome_rules.specs.Values.{Duration, noDuration, forDays}
 use Rattle.subject.specs.declared.Subject.{Subject}
@@ -38,9 +39,9 @@ pub record CallsInRange : Type 0 where
   -- a refusal carries its number and nothing else
   pub notAnswered : {s t : Subject} {r : Record} {a : AddAnswer} → Adds s r a t → (addNumber a ≡ 0 → ⊥) → addResponses a ≡ []
   -- an addition from bytes is the addition of the record that they are read as; where reading refuses them, or 12 meets the subject, it keeps every value
-  pub fromBytes : {s t : Subject} {bytes : List ℕ} {a : AddAnswer} → AddsBytes s bytes a t → refusalOfBytes bytes ≡ 0 → Adds s (recordOfBytes bytes) a t
-  pub notFromBytes : {s t : Subject} {bytes : List ℕ} {a : AddAnswer} → AddsBytes s bytes a t → inRange s ≡ true → (refusalOfBytes bytes ≡ 0 → ⊥) →
-      (addNumber a ≡ refusalOfBytes bytes) × (addResponses a ≡ []) × (t ≡ s)
+  pub fromBytes : {s t : Subject} {bytes : List ℕ} {a : AddAnswer} → AddsBytes s bytes a t → refusalOfBytes newForm bytes ≡ 0 → Adds s (recordOfBytes newForm bytes) a t
+  pub notFromBytes : {s t : Subject} {bytes : List ℕ} {a : AddAnswer} → AddsBytes s bytes a t → inRange s ≡ true → (refusalOfBytes newForm bytes ≡ 0 → ⊥) →
+      (addNumber a ≡ refusalOfBytes newForm bytes) × (addResponses a ≡ []) × (t ≡ s)
   -- every day and duration read from a subject in range is in range
   pub outcomeRead : {s : Subject} {o : OutcomeAnswer} → ReadsOutcome s o → inRange s ≡ true → ReadingWithin (readingValues o)
   -- 12 meets every other subject, the blank among them, before the record

@@ -19,7 +19,7 @@ pub missing-visits : (b : Baseline) (p : Past) → b .assessed ≡ false → All
 unfolding overallAt
 missing-visits b [] m = tt
 missing-visits b (baseline x ∷ p) m = missing-visits b p m
-missing-visits b (visit d v ∷ p) m = (overall-laws .missing (disease b) (visitsOf p) v m, missing-visits b p m)
+missing-visits b (visit d v ∷ p) m = (overall-laws .missing (b .unit) (disease b) (visitsOf p) v m, missing-visits b p m)
 missing-visits b (therapy d ∷ p) m = missing-visits b p m
 missing-visits b (death d ∷ p) m = missing-visits b p m
 

@@ -3,10 +3,11 @@
 use mathlib.Core.Path.{_≡_, refl}
 use mathlib.Core.Bool.{Bool, true, false, not}
 use mathlib.Core.List.{List, [], _∷_}
-use Prim.Native.Nat.{ℕ, _<_}
+use Prim.Native.Nat.{ℕ, _*_, _<_}
+use native.Mathlib.Omega.{arith}
 use lib.Dec.{leb, ltb, eqb}
 use lib.ListN.{length}
-use borrow.Author.Tests.{le-leb, lt-leb, lt-ltb, ltb-true, ltb-false, not-true}
+use borrow.Author.Tests.{le-leb, lt-leb, le-ltb, lt-ltb, ltb-true, ltb-false, not-true}
 use Rattle.laws.specs.Choice.{both, either, pick}
 use Rattle.laws.proofs.Tests.{never, both-true, either-false, either-with-true}
 use Rattle.records.specs.declared.Status.the-variants as S
@@ -18,10 +19,10 @@ use Rattle.records.specs.Refusals.{mostTargets, sizeOutsideLimits, measuredOuts
 use Rattle.response_rules.specs.Words.{CR, NA, statusWord}
 use Rattle.response_rules.specs.Inputs.{Visit}
 use Rattle.response_rules.specs.SumOfDiameters.{allMeasured}
-use Rattle.response_rules.specs.TargetAnswer.{disappeared, allDisappeared, targetAnswer}
+use Rattle.response_rules.specs.TargetAnswer.{allDisappeared, targetAnswer}
 use Rattle.response_rules.specs.OverallAnswer.{overallBy}
 use Rattle.response_rules.specs.VisitAnswers.{overallAnswer, targetAnswerAfter, overallAnswerAfter}
-use Rattle.outcome_rules.specs.StudyRecords.{Baseline, baseline, visit, disease, entryPasses, entryOfBaseline, fieldsPass}
+use Rattle.outcome_rules.specs.StudyRecords.{Baseline, baseline, visit, disease, entryPasses, entryOfBaseline, baselinePasses, fieldsPass}
 use Rattle.outcome_rules.specs.LawfulLists.{Past, latestDay, died, measuredBeyond, fitsBy, fits, lawfulBehind}
 use Rattle.outcome_rules.specs.Course.{visitsOf, overallAt}
 
@@ -50,14 +51,10 @@ not-both count i = go (ltb i count) refl
     go true e = rw (lt-leb count i (ltb-true i count e))
     go false e = rw (le-leb count i (ltb-false i count e))
 
-disappeared-at-zero : (node : Bool) → disappeared node 0 ≡ true
-disappeared-at-zero true = refl
-disappeared-at-zero false = refl
-
-not-large : (m : Bool) → measuredOutsideLimits m 0 ≡ false
+not-large : (unit : ℕ) (m : Bool) → measuredOutsideLimits unit m 0 ≡ false
 unfolding measuredOutsideLimits
-not-large true = refl
-not-large false = refl
+not-large unit true = le-ltb (500 * unit) 0 (omega arith)
+not-large unit false = refl
 
 not-sized : (m : Bool) → notZeroUnmeasured m 0 ≡ false
 unfolding notZeroUnmeasured
@@ -65,20 +62,20 @@ not-sized true = refl
 not-sized false = refl
 
 -- neither 4 nor 5 meets fields that pass
-pub limits-and-zeros : (e : Entry) (marks : List Bool) (sizes : List ℕ) → entryPasses e marks sizes ≡ true →
-    (outsideLimits e marks sizes ≡ false) × (notZero e marks sizes ≡ false)
+pub limits-and-zeros : (unit : ℕ) (e : Entry) (marks : List Bool) (sizes : List ℕ) → entryPasses unit e marks sizes ≡ true →
+    (outsideLimits unit e marks sizes ≡ false) × (notZero e marks sizes ≡ false)
 unfolding entryPasses
-limits-and-zeros e marks sizes passes =
+limits-and-zeros unit e marks sizes passes =
     let five = both (eqb (length marks) mostTargets) (eqb (length sizes) mostTargets) in
-    let met = either (outsideLimits e marks sizes) (notZero e marks sizes) in
-    either-false (outsideLimits e marks sizes) (notZero e marks sizes) (not-true met (both-true five (not met) passes .1))
+    let met = either (outsideLimits unit e marks sizes) (notZero e marks sizes) in
+    either-false (outsideLimits unit e marks sizes) (notZero e marks sizes) (not-true met (both-true five (not met) passes .1))
 
 -- so an assessed baseline has disease
-with-disease : (b : BaselineEntry) (marks : List Bool) (sizes : List ℕ) → outsideLimits (E.Baseline b) marks sizes ≡ false → b .assessed ≡ true →
+with-disease : (unit : ℕ) (b : BaselineEntry) (marks : List Bool) (sizes : List ℕ) → outsideLimits unit (E.Baseline b) marks sizes ≡ false → b .assessed ≡ true →
     withoutDisease b ≡ false
 unfolding outsideLimits withoutDisease
-with-disease b marks sizes e assessed =
-    let wrong = someTarget (sizeOutsideLimits (b .count)) marks sizes in
+with-disease unit b marks sizes e assessed =
+    let wrong = someTarget (sizeOutsideLimits unit (b .count)) marks sizes in
     let limits : either (ltb mostTargets (b .count)) (either (withoutDisease b) wrong) ≡ false = rw assessed at e in
     either-false (withoutDisease b) wrong (either-false (ltb mostTargets (b .count)) (either (withoutDisease b) wrong) limits .1) .0
 
@@ -88,22 +85,22 @@ module _ (b : Baseline) where
   complete-measured =
       rw (within-or-beyond (b .count) 0, within-or-beyond (b .count) 1, within-or-beyond (b .count) 2, within-or-beyond (b .count) 3, within-or-beyond (b .count) 4)
 
-  complete-disappeared : allDisappeared (b .count) (b .nodes) (completeVisit b .sizes) ≡ true
+  complete-disappeared : allDisappeared (b .unit) (b .count) (b .nodes) (completeVisit b .sizes) ≡ true
   unfolding allDisappeared completeVisit
-  complete-disappeared = simp (disappeared-at-zero, either-with-true)
+  complete-disappeared = simp either-with-true
 
-  complete-target : (vs : List Visit) → targetAnswerAfter (disease b) vs (completeVisit b) ≡ pick (eqb (b .count) 0) NA CR
+  complete-target : (vs : List Visit) → targetAnswerAfter (b .unit) (disease b) vs (completeVisit b) ≡ pick (eqb (b .count) 0) NA CR
   unfolding targetAnswer
   complete-target vs = rw (complete-measured, complete-disappeared)
 
   -- a target or non-target disease
-  has-disease : fieldsPass (baseline b) ≡ true → b .assessed ≡ true → both (eqb (b .count) 0) (not (b .nontarget)) ≡ false
+  has-disease : baselinePasses b ≡ true → b .assessed ≡ true → both (eqb (b .count) 0) (not (b .nontarget)) ≡ false
   unfolding withoutDisease
   has-disease passes assessed =
-      with-disease (entryOfBaseline b) (b .nodes) (b .sizes) (limits-and-zeros (E.Baseline (entryOfBaseline b)) (b .nodes) (b .sizes) passes .0) assessed
+      with-disease (b .unit) (entryOfBaseline b) (b .nodes) (b .sizes) (limits-and-zeros (b .unit) (E.Baseline (entryOfBaseline b)) (b .nodes) (b .sizes) passes .0) assessed
 
-  complete-overall : (vs : List Visit) → fieldsPass (baseline b) ≡ true → b .assessed ≡ true →
-      overallAnswerAfter (disease b) vs (completeVisit b) ≡ CR
+  complete-overall : (vs : List Visit) → baselinePasses b ≡ true → b .assessed ≡ true →
+      overallAnswerAfter (b .unit) (disease b) vs (completeVisit b) ≡ CR
   unfolding overallBy overallAnswer completeVisit
   complete-overall vs passes assessed = rw (complete-target vs, assessed) (go (eqb (b .count) 0) (b .nontarget) (has-disease passes assessed))
     where
@@ -113,7 +110,7 @@ module _ (b : Baseline) where
       go false true e = refl
       go false false e = refl
 
-  pub complete-answer : (p : Past) → fieldsPass (baseline b) ≡ true → b .assessed ≡ true → overallAt b p (completeVisit b) ≡ CR
+  pub complete-answer : (p : Past) → baselinePasses b ≡ true → b .assessed ≡ true → overallAt b p (completeVisit b) ≡ CR
   unfolding overallAt completeVisit
   complete-answer p passes assessed = complete-overall (visitsOf p) passes assessed
 
@@ -126,9 +123,9 @@ module _ (b : Baseline) where
       go true = refl
       go false = refl
 
-  pub complete-passes : (d : ℕ) → fieldsPass (visit d (completeVisit b)) ≡ true
+  pub complete-passes : (d : ℕ) → fieldsPass (b .unit) (visit d (completeVisit b)) ≡ true
   unfolding entryPasses outsideLimits notZero completeVisit
-  complete-passes d = simp (not-large, not-sized)
+  complete-passes d = simp (not-large (b .unit), not-sized)
 
   pub complete-lawful : (p : Past) (d : ℕ) → lawfulBehind b p ≡ true → died p ≡ false → latestDay p < d →
       lawfulBehind b (visit d (completeVisit b) ∷ p) ≡ true

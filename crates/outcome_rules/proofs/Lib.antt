@@ -12,3 +12,4 @@ pub mod MarksExactInOrder
 pub mod RefusalsOfAdding
 pub mod RecordsAccepted
 pub mod Laws
+pub mod Tenfold

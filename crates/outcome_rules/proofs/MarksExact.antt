@@ -9,7 +9,7 @@ use lib.Dec.{leb}
 use borrow.Author.Tests.{leb-true, leb-false}
 use Rattle.laws.proofs.Tests.{never, either-with-true}
 use Rattle.outcome_rules.specs.Values.{none, isRecorded, exists}
-use Rattle.outcome_rules.specs.StudyRecords.{Baseline, baseline, fieldsPass}
+use Rattle.outcome_rules.specs.StudyRecords.{Baseline, baseline, baselinePasses}
 use Rattle.outcome_rules.specs.LawfulLists.{Past, lawfulBehind}
 use Rattle.outcome_rules.specs.Course.{Course, course, latestDayIn, deathDayIn, therapyRecorded, progression}
 use Rattle.outcome_rules.specs.Pfs.{earlyDeathLimit, pfs}
@@ -80,7 +80,7 @@ module _ (assessed : Bool) (c : Course) {A : Type 0} where
       go false eg false et false ed true ea false ex =
           fails (is false false false true eg et ed ea ∙ ex) (open-still (absent (deathDayIn c) ed) ea et (absent (progression c) eg) ex)
 
-module _ (b : Baseline) (p : Past) (passes : fieldsPass (baseline b) ≡ true) (lawfully : lawfulBehind b p ≡ true) where
+module _ (b : Baseline) (p : Past) (passes : baselinePasses b ≡ true) (lawfully : lawfulBehind b p ≡ true) where
   abbrev c : Course
   c = course b p
 

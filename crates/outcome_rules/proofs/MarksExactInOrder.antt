@@ -2,6 +2,7 @@
 -- Assumes nothing.
 use mathlib.Core.Path.{_≡_, refl, sym, ap, _∙_}
 use mathlib.Core.Bool.{true}
+use Prim.Native.Nat.{ℕ}
 use mathlib.Core.List.{List, [], _∷_, _++_, reverse, reverse-append, reverse-reverse}
 use mathlib.Core.Logic.{_↔_, Iff·trans}
 use Rattle.laws.proofs.Tests.{both-true}
@@ -12,25 +13,25 @@ use Rattle.outcome_rules.specs.Settled.{outcome}
 use Rattle.outcome_rules.specs.MarksExact.{NoRunChanges, NoRunChangesInOrder, EveryMarkExactInOrder}
 use Rattle.outcome_rules.proofs.MarksExact.{every-mark-exact}
 
-pass-append : (rs ss : List StudyRecord) → allPass rs ≡ true → allPass ss ≡ true → allPass (rs ++ ss) ≡ true
-pass-append [] ss e f = f
-pass-append (r ∷ rs) ss e f =
-    let parts = both-true (fieldsPass r) (allPass rs) e in
-    rw (parts .0) (pass-append rs ss (parts .1) f)
+pass-append : (unit : ℕ) (rs ss : List StudyRecord) → allPass unit rs ≡ true → allPass unit ss ≡ true → allPass unit (rs ++ ss) ≡ true
+pass-append unit [] ss e f = f
+pass-append unit (r ∷ rs) ss e f =
+    let parts = both-true (fieldsPass unit r) (allPass unit rs) e in
+    rw (parts .0) (pass-append unit rs ss (parts .1) f)
 
-pass-reverse : (rs : List StudyRecord) → allPass rs ≡ true → allPass (reverse rs) ≡ true
-pass-reverse [] e = refl
-pass-reverse (r ∷ rs) e =
-    let parts = both-true (fieldsPass r) (allPass rs) e in
-    ap allPass (reverse-append (r ∷ []) rs) ∙ pass-append (reverse rs) (r ∷ []) (pass-reverse rs (parts .1)) (rw (parts .0))
+pass-reverse : (unit : ℕ) (rs : List StudyRecord) → allPass unit rs ≡ true → allPass unit (reverse rs) ≡ true
+pass-reverse unit [] e = refl
+pass-reverse unit (r ∷ rs) e =
+    let parts = both-true (fieldsPass unit r) (allPass unit rs) e in
+    ap (allPass unit) (reverse-append (r ∷ []) rs) ∙ pass-append unit (reverse rs) (r ∷ []) (pass-reverse unit rs (parts .1)) (rw (parts .0))
 
 unchanged-in-order : {A : Type 0} (part : Outcome → A) (b : Baseline) (rs : List StudyRecord) → NoRunChanges part b (reverse rs) ↔ NoRunChangesInOrder part b rs
 unchanged-in-order part b rs = (
   λ lasts run passes l.
       ap (λ (p : Past). part (outcome b p)) (reverse-append rs run)
-      ∙ lasts (reverse run) (pass-reverse run passes) (ap (lawfulBehind b) (sym (reverse-append rs run)) ∙ l),
+      ∙ lasts (reverse run) (pass-reverse (b .unit) run passes) (ap (lawfulBehind b) (sym (reverse-append rs run)) ∙ l),
   λ lasts run passes l.
-      ap (λ (p : Past). part (outcome b p)) (sym (turned run)) ∙ lasts (reverse run) (pass-reverse run passes) (ap (lawfulBehind b) (turned run) ∙ l),
+      ap (λ (p : Past). part (outcome b p)) (sym (turned run)) ∙ lasts (reverse run) (pass-reverse (b .unit) run passes) (ap (lawfulBehind b) (turned run) ∙ l),
 )
   where
     turned : (run : Past) → reverse (rs ++ reverse run) ≡ run ++ reverse rs

@@ -93,7 +93,7 @@ follows b p r e l q day =
 -- what is read from the course is the same behind every lawful run of further records
 abbrev pub Unchanged : {A : Type 0} → (Course → A) → Baseline → Past → Type 0
 Unchanged part b p =
-    (run : Past) → allPass run ≡ true → lawfulBehind b (run ++ p) ≡ true → part (course b (run ++ p)) ≡ part (course b p)
+    (run : Past) → allPass (b .unit) run ≡ true → lawfulBehind b (run ++ p) ≡ true → part (course b (run ++ p)) ≡ part (course b p)
 
 -- so it is where each further occurrence keeps it, together with a reason for that
 pub unchanged-by : {A : Type 0} (part : Course → A) (Reason : Course → Type 0) (b : Baseline) →

@@ -22,6 +22,7 @@ use Rattle.records.specs.declared.Record.{Record}
 use Rattle.records.specs.Entries.{dateOf, Five}
 use Rattle.records.specs.Refusals.{mostTargets, withoutDisease, outsideLimits, notZero, refusalOfRecord}
 use Rattle.records.proofs.NoOwnRefusal.{passes}
+use Rattle.records.specs.Forms.{newUnit}
 use Rattle.outcome_rules.specs.StudyRecords.{Baseline, StudyRecord, baseline, visit, therapy, death, entryPasses, fieldsPass, studyDay, entryOnStudyDay, onStudyDay}
 use Rattle.outcome_rules.specs.LawfulLists.{Past, latestDay, died, fits, lawfulBehind}
 use Rattle.outcome_rules.specs.Adding.{isBaseline, tooEarly, refusalsOfStudyRecord}
@@ -68,27 +69,27 @@ before-randomisation randomisation d h =
     go false = refl
 
 early : (randomisation : Date) (p : Past) (e : Entry) (marks : List Bool) (sizes : List ℕ) →
-    isBaseline (entryOnStudyDay randomisation e marks sizes) ≡ false → dayNumber (dateOf e) < dayNumber randomisation →
-    tooEarly (latestDay p) (entryOnStudyDay randomisation e marks sizes) ≡ true
+    isBaseline (entryOnStudyDay newUnit randomisation e marks sizes) ≡ false → dayNumber (dateOf e) < dayNumber randomisation →
+    tooEarly (latestDay p) (entryOnStudyDay newUnit randomisation e marks sizes) ≡ true
 early randomisation p (E.Baseline b) marks sizes n h = absurd (never n)
 early randomisation p (E.Visit v) marks sizes n h = rw (before-randomisation randomisation (v .date) h, le-leb 0 (latestDay p) (omega arith))
 early randomisation p (E.Therapy d) marks sizes n h = rw (before-randomisation randomisation d h, lt-ltb 0 (latestDay p) (from-day-1 p))
 early randomisation p (E.Death d) marks sizes n h = rw (before-randomisation randomisation d h, lt-ltb 0 (latestDay p) (from-day-1 p))
 
-pub too-early : (randomisation : Date) (p : Past) (r : Record) → isBaseline (onStudyDay randomisation r) ≡ false →
-    dayNumber (dateOf (r .entry)) < dayNumber randomisation → tooEarly (latestDay p) (onStudyDay randomisation r) ≡ true
+pub too-early : (randomisation : Date) (p : Past) (r : Record) → isBaseline (onStudyDay newUnit randomisation r) ≡ false →
+    dayNumber (dateOf (r .entry)) < dayNumber randomisation → tooEarly (latestDay p) (onStudyDay newUnit randomisation r) ≡ true
 too-early randomisation p r n h = early randomisation p (r .entry) (r .marks) (r .sizes) n h
 
 -- 4 and 5 do not look at the date
 fields-on-day : (randomisation : Date) (e : Entry) (marks : List Bool) (sizes : List ℕ) → length marks ≡ mostTargets → length sizes ≡ mostTargets →
-    outsideLimits e marks sizes ≡ false → notZero e marks sizes ≡ false → fieldsPass (entryOnStudyDay randomisation e marks sizes) ≡ true
+    outsideLimits newUnit e marks sizes ≡ false → notZero e marks sizes ≡ false → fieldsPass newUnit (entryOnStudyDay newUnit randomisation e marks sizes) ≡ true
 unfolding entryPasses outsideLimits notZero withoutDisease
 fields-on-day randomisation (E.Baseline b) marks sizes m s limits zeros = rw (m, s, limits, zeros)
 fields-on-day randomisation (E.Visit v) marks sizes m s limits zeros = rw (m, s, limits, zeros)
 fields-on-day randomisation (E.Therapy d) marks sizes m s limits zeros = refl
 fields-on-day randomisation (E.Death d) marks sizes m s limits zeros = refl
 
-pub own-passed : (randomisation : Date) (r : Record) → Five r → refusalOfRecord r ≡ 0 → fieldsPass (onStudyDay randomisation r) ≡ true
+pub own-passed : (randomisation : Date) (r : Record) → Five r → refusalOfRecord newUnit r ≡ 0 → fieldsPass newUnit (onStudyDay newUnit randomisation r) ≡ true
 own-passed randomisation r five e =
-    let own = passes r false false e in
+    let own = passes newUnit r false false e in
     fields-on-day randomisation (r .entry) (r .marks) (r .sizes) (five .marks) (five .sizes) (own .limits) (own .zeros)

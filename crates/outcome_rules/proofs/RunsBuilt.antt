@@ -8,7 +8,7 @@ use native.Mathlib.Omega.{arith}
 use borrow.Author.Tests.{le-leb}
 use Rattle.response_rules.specs.Words.{CR}
 use Rattle.outcome_rules.specs.Values.{none}
-use Rattle.outcome_rules.specs.StudyRecords.{Baseline, baseline, visit, death, fieldsPass}
+use Rattle.outcome_rules.specs.StudyRecords.{Baseline, baseline, visit, death, baselinePasses}
 use Rattle.outcome_rules.specs.LawfulLists.{Past, latestDay, died, lawfulBehind}
 use Rattle.outcome_rules.specs.Course.{Occurrence, judgedVisit, deathOn, Course, course, latestDayIn, deathDayIn}
 use Rattle.outcome_rules.specs.BestResponse.{confirmationDays}
@@ -44,7 +44,7 @@ module _ {A : Type 0} (part : Course → A) (b : Baseline) (p : Past) (lawfully 
   one-more-lawful : lawfulBehind b more ≡ true
   one-more-lawful = complete-lawful b p (suc day) lawfully living (omega arith)
 
-  module _ (passes : fieldsPass (baseline b) ≡ true) (assessed : b .assessed ≡ true) where
+  module _ (passes : baselinePasses b ≡ true) (assessed : b .assessed ≡ true) where
     pub same-after-one : part (oneMore (course b p)) ≡ part (course b p)
     same-after-one =
         rw (latest-in b p)

@@ -49,41 +49,43 @@ refusalsOfStudyRecordInOrder rs r = fromBaseline (7 when true ∷ []) (λ (b : B
 abbrev pub notBaseline : Entry → Bool
 notBaseline e = not (eqb (kindNumber e) 1)
 
--- 3 to 5, then 7
-unfoldable pub refusalsOfOpening : Record → List Refusal
-refusalsOfOpening r = refusalsOfRecord r ++ 7 when notBaseline (r .entry) ∷ []
-
-abbrev pub refusalOfOpening : Record → ℕ
-refusalOfOpening r = first (refusalsOfOpening r)
-
--- adding, judged against the records accepted so far, baseline first: 3 to 5, then 8 to 11
-unfoldable pub refusalsOfAdding : List Record → Record → List Refusal
-refusalsOfAdding [] r = refusalsOfRecord r ++ 7 when true ∷ []
-refusalsOfAdding (b ∷ rs) r = refusalsOfRecord r ++ refusalsOfStudyRecordInOrder (onStudyDays (b ∷ rs)) (onStudyDay (dateOf (b .entry)) r)
-
-abbrev pub refusalOfAdding : List Record → Record → ℕ
-refusalOfAdding rs r = first (refusalsOfAdding rs r)
-
 -- the responses at a visit behind a list in the order recorded; no other record has them
 abbrev pub linesAfter : List StudyRecord → StudyRecord → List VisitLine
 linesAfter rs r = fromBaseline [] (λ (b : Baseline) (rs : List StudyRecord). linesOfRecord b (reverse rs) r) rs
-
--- what an addition replies of a visit, by the number of its refusal: beside a refusal nothing
-abbrev pub responsesOfAdding : List Record → Record → List VisitLine
-responsesOfAdding [] r = []
-responsesOfAdding (b ∷ rs) r =
-    pick (eqb (refusalOfAdding (b ∷ rs) r) 0) (linesAfter (onStudyDays (b ∷ rs)) (onStudyDay (dateOf (b .entry)) r)) []
 
 pub data Call : Type 0 where
   add : Record → Call
   read : Call
 
--- the record of each addition goes behind those accepted so far when no refusal meets it; otherwise, and where the outcome is read, they stay
-abbrev pub acceptedAfter : List Record → List Call → List Record
-acceptedAfter rs [] = rs
-acceptedAfter rs (add r ∷ cs) = acceptedAfter (pick (eqb (refusalOfAdding rs r) 0) (rs ++ (r ∷ [])) rs) cs
-acceptedAfter rs (read ∷ cs) = acceptedAfter rs cs
+-- of sizes of which a millimetre has so many units
+module _ (unit : ℕ) where
+  -- 3 to 5, then 7
+  unfoldable pub refusalsOfOpening : Record → List Refusal
+  refusalsOfOpening r = refusalsOfRecord unit r ++ 7 when notBaseline (r .entry) ∷ []
 
--- the accepted records, a term of document 01: the baseline opened with comes first
-abbrev pub accepted : Record → List Call → List Record
-accepted b cs = acceptedAfter (b ∷ []) cs
+  abbrev pub refusalOfOpening : Record → ℕ
+  refusalOfOpening r = first (refusalsOfOpening r)
+
+  -- adding, judged against the records accepted so far, baseline first: 3 to 5, then 8 to 11
+  unfoldable pub refusalsOfAdding : List Record → Record → List Refusal
+  refusalsOfAdding [] r = refusalsOfRecord unit r ++ 7 when true ∷ []
+  refusalsOfAdding (b ∷ rs) r = refusalsOfRecord unit r ++ refusalsOfStudyRecordInOrder (onStudyDays unit (b ∷ rs)) (onStudyDay unit (dateOf (b .entry)) r)
+
+  abbrev pub refusalOfAdding : List Record → Record → ℕ
+  refusalOfAdding rs r = first (refusalsOfAdding rs r)
+
+  -- what an addition replies of a visit, by the number of its refusal: beside a refusal nothing
+  abbrev pub responsesOfAdding : List Record → Record → List VisitLine
+  responsesOfAdding [] r = []
+  responsesOfAdding (b ∷ rs) r =
+      pick (eqb (refusalOfAdding (b ∷ rs) r) 0) (linesAfter (onStudyDays unit (b ∷ rs)) (onStudyDay unit (dateOf (b .entry)) r)) []
+
+  -- the record of each addition goes behind those accepted so far when no refusal meets it; otherwise, and where the outcome is read, they stay
+  abbrev pub acceptedAfter : List Record → List Call → List Record
+  acceptedAfter rs [] = rs
+  acceptedAfter rs (add r ∷ cs) = acceptedAfter (pick (eqb (refusalOfAdding rs r) 0) (rs ++ (r ∷ [])) rs) cs
+  acceptedAfter rs (read ∷ cs) = acceptedAfter rs cs
+
+  -- the accepted records, a term of document 01: the baseline opened with comes first
+  abbrev pub accepted : Record → List Call → List Record
+  accepted b cs = acceptedAfter (b ∷ []) cs

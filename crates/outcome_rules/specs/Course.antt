@@ -40,7 +40,7 @@ Course = List Occurrence
 
 -- the overall answer at a visit, after the earlier ones
 unfoldable pub overallAt : Baseline → Past → Visit → Word
-overallAt b p v = overallAnswerAfter (disease b) (visitsOf p) v
+overallAt b p v = overallAnswerAfter (b .unit) (disease b) (visitsOf p) v
 
 abbrev pub judge : Baseline → Past → ℕ → Visit → Judged
 judge b p d v = record { day = d; answer = overallAt b p v }

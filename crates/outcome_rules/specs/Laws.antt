@@ -11,6 +11,7 @@ use Rattle.dates.specs.Calendar.{dayNumber}
 use Rattle.records.specs.declared.Record.{Record}
 use Rattle.records.specs.Entries.{dateOf, Five}
 use Rattle.records.specs.Refusals.{refusalOfRecord}
+use Rattle.records.specs.Forms.{newUnit}
 use Rattle.outcome_rules.specs.Values.{exists}
 use Rattle.outcome_rules.specs.StudyRecords.{Baseline, StudyRecord, dayOf, fieldsPass, onStudyDay, onStudyDays}
 use Rattle.outcome_rules.specs.LawfulLists.{Past, latestDay, deathDay, lawfulBehind, lawful}
@@ -34,16 +35,16 @@ pub record AddingLaws : Type 0 where
   pub oneMore : (b : Baseline) (p : Past) (r : StudyRecord) → lawfulBehind b p ≡ true →
       (first (refusalsOfStudyRecord b p r) ≡ 0) ↔ (lawfulBehind b (r ∷ p) ≡ true)
   -- a date before randomisation is too early after any list, also where day 1 is not
-  pub beforeRandomisation : (randomisation : Date) (p : Past) (r : Record) → isBaseline (onStudyDay randomisation r) ≡ false →
-      dayNumber (dateOf (r .entry)) < dayNumber randomisation → tooEarly (latestDay p) (onStudyDay randomisation r) ≡ true
+  pub beforeRandomisation : (randomisation : Date) (p : Past) (r : Record) → isBaseline (onStudyDay newUnit randomisation r) ≡ false →
+      dayNumber (dateOf (r .entry)) < dayNumber randomisation → tooEarly (latestDay p) (onStudyDay newUnit randomisation r) ≡ true
   -- a record that none of its own refusals meets passes 4 and 5 on its study day
-  pub ownPassed : (randomisation : Date) (r : Record) → Five r → refusalOfRecord r ≡ 0 → fieldsPass (onStudyDay randomisation r) ≡ true
+  pub ownPassed : (randomisation : Date) (r : Record) → Five r → refusalOfRecord newUnit r ≡ 0 → fieldsPass newUnit (onStudyDay newUnit randomisation r) ≡ true
 
 pub record CallLaws : Type 0 where
   -- from an accepted opening every list of calls leads to a lawful list
-  pub acceptedLawful : (b : Record) (cs : List Call) → refusalOfOpening b ≡ 0 → lawful (onStudyDays (accepted b cs)) ≡ true
+  pub acceptedLawful : (b : Record) (cs : List Call) → refusalOfOpening newUnit b ≡ 0 → lawful (onStudyDays newUnit (accepted newUnit b cs)) ≡ true
   -- behind which a record goes exactly where none of 3 to 5 meets it and the list with it is lawful
-  pub addedExactly : (b : Record) (cs : List Call) (r : Record) → refusalOfOpening b ≡ 0 →
-      (refusalOfAdding (accepted b cs) r ≡ 0) ↔ ((refusalOfRecord r ≡ 0) × (lawful (onStudyDays (accepted b cs ++ (r ∷ []))) ≡ true))
+  pub addedExactly : (b : Record) (cs : List Call) (r : Record) → refusalOfOpening newUnit b ≡ 0 →
+      (refusalOfAdding newUnit (accepted newUnit b cs) r ≡ 0) ↔ ((refusalOfRecord newUnit r ≡ 0) × (lawful (onStudyDays newUnit (accepted newUnit b cs ++ (r ∷ []))) ≡ true))
   -- and each mark of the outcome of that list is true exactly when no run changes its part
-  pub acceptedExact : (b : Record) (cs : List Call) → Five b → refusalOfOpening b ≡ 0 → MarksExactOn (onStudyDays (accepted b cs))
+  pub acceptedExact : (b : Record) (cs : List Call) → Five b → refusalOfOpening newUnit b ≡ 0 → MarksExactOn (onStudyDays newUnit (accepted newUnit b cs))

@@ -9,6 +9,7 @@ pub mod Duration
 pub mod Settled
 pub mod MarksExact
 pub mod Adding
+pub mod Tenfold
 pub mod Laws
 pub mod StarredExamples
 pub mod FurtherExamples

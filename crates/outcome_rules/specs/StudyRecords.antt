@@ -21,6 +21,8 @@ use Rattle.response_rules.specs.declared.BaselineDisease.{BaselineDisease}
 use Rattle.response_rules.specs.Inputs.{Visit, visitOf, diseaseOf}
 
 pub record Baseline : Type 0 where
+  -- how many units of size a millimetre has in the records of the subject (document 02, request 1)
+  pub unit : ℕ
   pub assessed : Bool
   pub nontarget : Bool
   pub count : ℕ
@@ -51,36 +53,29 @@ abbrev pub disease : Baseline → BaselineDisease
 disease b = diseaseOf (entryOfBaseline b) (b .nodes) (b .sizes)
 
 -- five marks and five sizes, and neither 4 nor 5 meets
-unfoldable pub entryPasses : Entry → List Bool → List ℕ → Bool
-entryPasses e marks sizes =
+unfoldable pub entryPasses : ℕ → Entry → List Bool → List ℕ → Bool
+entryPasses unit e marks sizes =
     both (both (eqb (length marks) mostTargets) (eqb (length sizes) mostTargets))
-    (not (either (outsideLimits e marks sizes) (notZero e marks sizes)))
+    (not (either (outsideLimits unit e marks sizes) (notZero e marks sizes)))
 
--- neither 4 nor 5 meets the fields other than the date
-abbrev pub fieldsPass : StudyRecord → Bool
-fieldsPass (baseline b) = entryPasses (E.Baseline (entryOfBaseline b)) (b .nodes) (b .sizes)
-fieldsPass (visit d v) = entryPasses (E.Visit (entryOfVisit v)) (v .measured) (v .sizes)
-fieldsPass (therapy d) = true
-fieldsPass (death d) = true
+-- neither 4 nor 5 meets the fields of a baseline other than the date
+abbrev pub baselinePasses : Baseline → Bool
+baselinePasses b = entryPasses (b .unit) (E.Baseline (entryOfBaseline b)) (b .nodes) (b .sizes)
 
-abbrev pub allPass : List StudyRecord → Bool
-allPass [] = true
-allPass (r ∷ rs) = both (fieldsPass r) (allPass rs)
+-- nor those of any record, with sizes of which a millimetre has so many units
+abbrev pub fieldsPass : ℕ → StudyRecord → Bool
+fieldsPass unit (baseline b) = baselinePasses b
+fieldsPass unit (visit d v) = entryPasses unit (E.Visit (entryOfVisit v)) (v .measured) (v .sizes)
+fieldsPass unit (therapy d) = true
+fieldsPass unit (death d) = true
+
+abbrev pub allPass : ℕ → List StudyRecord → Bool
+allPass unit [] = true
+allPass unit (r ∷ rs) = both (fieldsPass unit r) (allPass unit rs)
 
 -- the study day of a date; 0, which is no study day, where the date is before randomisation or either of them does not exist
 abbrev pub studyDay : Date → Date → ℕ
 studyDay randomisation d = studyDayOf d randomisation .day
-
--- a record with its date on its study day
-abbrev pub entryOnStudyDay : Date → Entry → List Bool → List ℕ → StudyRecord
-entryOnStudyDay randomisation (E.Baseline b) marks sizes =
-    baseline (record { assessed = b .assessed; nontarget = b .nontarget; count = b .count; nodes = marks; sizes = sizes })
-entryOnStudyDay randomisation (E.Visit v) marks sizes = visit (studyDay randomisation (v .date)) (visitOf v marks sizes)
-entryOnStudyDay randomisation (E.Therapy d) marks sizes = therapy (studyDay randomisation d)
-entryOnStudyDay randomisation (E.Death d) marks sizes = death (studyDay randomisation d)
-
-abbrev pub onStudyDay : Date → Record → StudyRecord
-onStudyDay randomisation r = entryOnStudyDay randomisation (r .entry) (r .marks) (r .sizes)
 
 -- a function of a baseline and the records behind it, on a list of records in the order recorded; `otherwise` where it does not open with a baseline
 abbrev pub fromBaseline {ℓ} : {A : Type ℓ} → A → (Baseline → List StudyRecord → A) → List StudyRecord → A
@@ -90,7 +85,20 @@ fromBaseline otherwise f (visit d v ∷ rs) = otherwise
 fromBaseline otherwise f (therapy d ∷ rs) = otherwise
 fromBaseline otherwise f (death d ∷ rs) = otherwise
 
--- a list of records, in the order recorded: the date of the first is the randomisation date
-abbrev pub onStudyDays : List Record → List StudyRecord
-onStudyDays [] = []
-onStudyDays (b ∷ rs) = map (onStudyDay (dateOf (b .entry))) (b ∷ rs)
+-- of sizes of which a millimetre has so many units
+module _ (unit : ℕ) where
+  -- a record with its date on its study day
+  abbrev pub entryOnStudyDay : Date → Entry → List Bool → List ℕ → StudyRecord
+  entryOnStudyDay randomisation (E.Baseline b) marks sizes =
+      baseline (record { unit = unit; assessed = b .assessed; nontarget = b .nontarget; count = b .count; nodes = marks; sizes = sizes })
+  entryOnStudyDay randomisation (E.Visit v) marks sizes = visit (studyDay randomisation (v .date)) (visitOf v marks sizes)
+  entryOnStudyDay randomisation (E.Therapy d) marks sizes = therapy (studyDay randomisation d)
+  entryOnStudyDay randomisation (E.Death d) marks sizes = death (studyDay randomisation d)
+
+  abbrev pub onStudyDay : Date → Record → StudyRecord
+  onStudyDay randomisation r = entryOnStudyDay randomisation (r .entry) (r .marks) (r .sizes)
+
+  -- a list of records, in the order recorded: the date of the first is the randomisation date
+  abbrev pub onStudyDays : List Record → List StudyRecord
+  onStudyDays [] = []
+  onStudyDays (b ∷ rs) = map (onStudyDay (dateOf (b .entry))) (b ∷ rs)

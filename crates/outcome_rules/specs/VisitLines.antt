@@ -23,7 +23,7 @@ unfoldable pub lineOfVisit : Baseline → Past → ℕ → Visit → VisitLine
 lineOfVisit b p d v =
     record {
       day = d;
-      target = targetAnswerAfter (disease b) (visitsOf p) v;
+      target = targetAnswerAfter (b .unit) (disease b) (visitsOf p) v;
       nontarget = statusWord (v .status);
       overall = overallAt b p v;
       change = changeOf (disease b) v;

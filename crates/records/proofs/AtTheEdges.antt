@@ -9,20 +9,20 @@ pub own-refusals : OwnRefusals
 unfolding leapYear daysInMonth dateExists sizeOutsideLimits measuredOutsideLimits notZeroBeyondCount notZeroUnmeasured withoutDisease outsideLimits notZero refusalsOfRead
 own-refusals =
     record {
-      node15 = refl;
-      node14 = refl;
-      other10 = refl;
-      other9 = refl;
-      size500 = refl;
-      size501 = refl;
+      node150 = refl;
+      node149 = refl;
+      other100 = refl;
+      other99 = refl;
+      size5000 = refl;
+      size5001 = refl;
       fiveTargets = refl;
       fifthTarget = refl;
       sixTargets = refl;
       withoutDisease = refl;
       nontargetAlone = refl;
       measured0 = refl;
-      measured500 = refl;
-      measured501 = refl;
+      measured5000 = refl;
+      measured5001 = refl;
       noStatus = refl;
       markBeyond = refl;
       sizeBeyond = refl;

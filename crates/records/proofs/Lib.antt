@@ -1,3 +1,4 @@
 pub mod AtTheEdges
 pub mod Returns
+pub mod Tenfold
 pub mod NoOwnRefusal

@@ -17,6 +17,7 @@ use Rattle.records.specs.declared.Entry.the-variants as E
 use Rattle.records.specs.declared.Record.{Record}
 use Rattle.records.specs.declared.Status.{Status}
 use Rattle.records.specs.declared.Status.the-variants as S
+use Rattle.records.specs.Forms.{newUnit}
 
 -- so many places, the first of them as given
 abbrev pub filled : {A : Type 0} → A → ℕ → List A → List A
@@ -46,19 +47,19 @@ deathDated d = withTargets (E.Death d) [] []
 
 -- an assessed baseline without non-target disease, by its count, nodes and sizes; a visit, by what was measured; a missing baseline
 abbrev pub refusalOfAssessed : ℕ → List Bool → List ℕ → ℕ
-refusalOfAssessed count nodes sizes = refusalOfRecord (baselineDated (ymd 2020 1 1) true false count nodes sizes)
+refusalOfAssessed count nodes sizes = refusalOfRecord newUnit (baselineDated (ymd 2020 1 1) true false count nodes sizes)
 
 abbrev pub refusalOfVisit : List Bool → List ℕ → ℕ
-refusalOfVisit measured sizes = refusalOfRecord (visitDated (ymd 2020 2 12) S.NN false measured sizes)
+refusalOfVisit measured sizes = refusalOfRecord newUnit (visitDated (ymd 2020 2 12) S.NN false measured sizes)
 
 abbrev pub refusalOfMissing : Bool → ℕ → List Bool → List ℕ → ℕ
-refusalOfMissing nontarget count nodes sizes = refusalOfRecord (baselineDated (ymd 2020 1 1) false nontarget count nodes sizes)
+refusalOfMissing nontarget count nodes sizes = refusalOfRecord newUnit (baselineDated (ymd 2020 1 1) false nontarget count nodes sizes)
 
--- a baseline that counts six targets of 10 and has six places
+-- a baseline that counts six targets of 10 mm and has six places
 abbrev pub sixPlaces : Record
 sixPlaces = record {
   entry = E.Baseline (record { date = ymd 2020 1 1; assessed = true; nontarget = false; count = 6 });
-  sizes = 10 ∷ 10 ∷ 10 ∷ 10 ∷ 10 ∷ 10 ∷ [];
+  sizes = 100 ∷ 100 ∷ 100 ∷ 100 ∷ 100 ∷ 100 ∷ [];
   marks = false ∷ false ∷ false ∷ false ∷ false ∷ false ∷ [];
 }
 
@@ -72,47 +73,47 @@ eachKind d =
     ∷ []
 
 pub record OwnRefusals : Type 0 where
-  -- 4: a node from 15, any other target from 10, each to 500
-  pub node15 : refusalOfAssessed 1 (true ∷ []) (15 ∷ []) ≡ 0
-  pub node14 : refusalOfAssessed 1 (true ∷ []) (14 ∷ []) ≡ 4
-  pub other10 : refusalOfAssessed 1 [] (10 ∷ []) ≡ 0
-  pub other9 : refusalOfAssessed 1 [] (9 ∷ []) ≡ 4
-  pub size500 : refusalOfAssessed 1 [] (500 ∷ []) ≡ 0
-  pub size501 : refusalOfAssessed 1 [] (501 ∷ []) ≡ 4
+  -- 4: a node from 15.0 mm, any other target from 10.0, each to 500.0
+  pub node150 : refusalOfAssessed 1 (true ∷ []) (150 ∷ []) ≡ 0
+  pub node149 : refusalOfAssessed 1 (true ∷ []) (149 ∷ []) ≡ 4
+  pub other100 : refusalOfAssessed 1 [] (100 ∷ []) ≡ 0
+  pub other99 : refusalOfAssessed 1 [] (99 ∷ []) ≡ 4
+  pub size5000 : refusalOfAssessed 1 [] (5000 ∷ []) ≡ 0
+  pub size5001 : refusalOfAssessed 1 [] (5001 ∷ []) ≡ 4
   -- every target within the count is judged, the fifth too
-  pub fiveTargets : refusalOfAssessed 5 [] (10 ∷ 10 ∷ 10 ∷ 10 ∷ 10 ∷ []) ≡ 0
-  pub fifthTarget : refusalOfAssessed 5 [] (10 ∷ 10 ∷ 10 ∷ 10 ∷ 9 ∷ []) ≡ 4
+  pub fiveTargets : refusalOfAssessed 5 [] (100 ∷ 100 ∷ 100 ∷ 100 ∷ 100 ∷ []) ≡ 0
+  pub fifthTarget : refusalOfAssessed 5 [] (100 ∷ 100 ∷ 100 ∷ 100 ∷ 99 ∷ []) ≡ 4
   -- target count 0 to 5
-  pub sixTargets : refusalOfRecord sixPlaces ≡ 4
+  pub sixTargets : refusalOfRecord newUnit sixPlaces ≡ 4
   -- assessed needs a target or non-target disease
   pub withoutDisease : refusalOfAssessed 0 [] [] ≡ 4
-  pub nontargetAlone : refusalOfRecord (baselineDated (ymd 2020 1 1) true true 0 [] []) ≡ 0
-  -- a size measured is from 0 to 500, and a status is none of 5 to 7
+  pub nontargetAlone : refusalOfRecord newUnit (baselineDated (ymd 2020 1 1) true true 0 [] []) ≡ 0
+  -- a size measured is from 0 to 500.0 mm, and a status is none of 5 to 7
   pub measured0 : refusalOfVisit (true ∷ []) (0 ∷ []) ≡ 0
-  pub measured500 : refusalOfVisit (true ∷ []) (500 ∷ []) ≡ 0
-  pub measured501 : refusalOfVisit (true ∷ []) (501 ∷ []) ≡ 4
-  pub noStatus : first (refusalsOfRead (visitDated (ymd 2020 2 12) S.NN false [] []) true false) ≡ 4
+  pub measured5000 : refusalOfVisit (true ∷ []) (5000 ∷ []) ≡ 0
+  pub measured5001 : refusalOfVisit (true ∷ []) (5001 ∷ []) ≡ 4
+  pub noStatus : first (refusalsOfRead newUnit (visitDated (ymd 2020 2 12) S.NN false [] []) true false) ≡ 4
   -- 5 alone: targets beyond the count, the size of an unmeasured target, everything after a 0 assessed bit, and spare bits
-  pub markBeyond : refusalOfAssessed 1 (false ∷ true ∷ []) (10 ∷ []) ≡ 5
-  pub sizeBeyond : refusalOfAssessed 1 [] (10 ∷ 501 ∷ []) ≡ 5
-  pub unmeasured : refusalOfVisit [] (501 ∷ []) ≡ 5
+  pub markBeyond : refusalOfAssessed 1 (false ∷ true ∷ []) (100 ∷ []) ≡ 5
+  pub sizeBeyond : refusalOfAssessed 1 [] (100 ∷ 5001 ∷ []) ≡ 5
+  pub unmeasured : refusalOfVisit [] (5001 ∷ []) ≡ 5
   pub unmeasured1 : refusalOfVisit [] (1 ∷ []) ≡ 5
   pub missingAlone : refusalOfMissing false 0 [] [] ≡ 0
   pub missingNontarget : refusalOfMissing true 0 [] [] ≡ 5
   pub missingCount1 : refusalOfMissing false 1 [] [] ≡ 5
   pub missingCount7 : refusalOfMissing false 7 [] [] ≡ 5
   pub missingNode : refusalOfMissing false 0 (true ∷ []) [] ≡ 5
-  pub missingSize : refusalOfMissing false 0 [] (501 ∷ []) ≡ 5
-  -- therapy, death: what would be a measured size of 501 is 5 and not 4
-  pub therapyMark : refusalOfRecord (withTargets (E.Therapy (ymd 2020 2 12)) (true ∷ []) []) ≡ 5
-  pub therapyTarget : refusalOfRecord (withTargets (E.Therapy (ymd 2020 2 12)) (true ∷ []) (501 ∷ [])) ≡ 5
-  pub deathMark : refusalOfRecord (withTargets (E.Death (ymd 2020 2 12)) (true ∷ []) []) ≡ 5
-  pub deathSize : refusalOfRecord (withTargets (E.Death (ymd 2020 2 12)) [] (1 ∷ [])) ≡ 5
-  pub deathTarget : refusalOfRecord (withTargets (E.Death (ymd 2020 2 12)) (true ∷ []) (501 ∷ [])) ≡ 5
-  pub spareBit : first (refusalsOfRead (therapyDated (ymd 2020 2 12)) false true) ≡ 5
+  pub missingSize : refusalOfMissing false 0 [] (5001 ∷ []) ≡ 5
+  -- therapy, death: what would be a measured size of 500.1 mm is 5 and not 4
+  pub therapyMark : refusalOfRecord newUnit (withTargets (E.Therapy (ymd 2020 2 12)) (true ∷ []) []) ≡ 5
+  pub therapyTarget : refusalOfRecord newUnit (withTargets (E.Therapy (ymd 2020 2 12)) (true ∷ []) (5001 ∷ [])) ≡ 5
+  pub deathMark : refusalOfRecord newUnit (withTargets (E.Death (ymd 2020 2 12)) (true ∷ []) []) ≡ 5
+  pub deathSize : refusalOfRecord newUnit (withTargets (E.Death (ymd 2020 2 12)) [] (1 ∷ [])) ≡ 5
+  pub deathTarget : refusalOfRecord newUnit (withTargets (E.Death (ymd 2020 2 12)) (true ∷ []) (5001 ∷ [])) ≡ 5
+  pub spareBit : first (refusalsOfRead newUnit (therapyDated (ymd 2020 2 12)) false true) ≡ 5
   -- 3 before 4, and 4 before 5
-  pub dateFirst : first (refusalsOfRead (visitDated (ymd 2021 2 29) S.NN false (true ∷ []) (501 ∷ 1 ∷ [])) true true) ≡ 3
-  pub limitsNext : first (refusalsOfRead (visitDated (ymd 2020 2 12) S.NN false (true ∷ []) (501 ∷ 1 ∷ [])) false true) ≡ 4
+  pub dateFirst : first (refusalsOfRead newUnit (visitDated (ymd 2021 2 29) S.NN false (true ∷ []) (5001 ∷ 1 ∷ [])) true true) ≡ 3
+  pub limitsNext : first (refusalsOfRead newUnit (visitDated (ymd 2020 2 12) S.NN false (true ∷ []) (5001 ∷ 1 ∷ [])) false true) ≡ 4
 
 pub record NumbersOfCases : Type 0 where
   -- 1 baseline, 2 visit, 3 therapy, 4 death

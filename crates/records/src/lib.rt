@@ -8,6 +8,7 @@ ghost use Rattle.laws.specs.Refusals.{_when_, first};
 ghost use Rattle.records.specs.Entries.{dateOf};
 ghost use Rattle.records.specs.Refusals.{ownNumber, checkNumber, withoutDisease, outsideLimits, notZero, ChecksVisit, refusalsOfRead, refusalOfRecord};
 ghost use Rattle.records.specs.declared.Entry.the-variants.{Baseline};
+ghost use Rattle.records.specs.Forms.{newUnit};
 
 mod targets; // targets.rt: what some of the five targets breaks
 
@@ -47,7 +48,7 @@ pub enum Entry {
     Death(Date),
 }
 
-// A record, with the five targets' sizes in millimetres beside the entry. A mark is 'node' in a baseline and 'measured' in a visit.
+// A record, with the five targets' sizes in tenths of a millimetre beside the entry. A mark is 'node' in a baseline and 'measured' in a visit.
 pub struct Record {
     pub entry: Entry,
     pub sizes: [u16; 5],
@@ -68,8 +69,8 @@ pub enum CheckAnswer {
 
 pub const MOST_TARGETS: u8 = 5;
 
-// In millimetres.
-pub const LARGEST_SIZE: u16 = 500;
+// In tenths of a millimetre.
+pub const LARGEST_SIZE: u16 = 5000;
 
 pub fn own_number(refusal: OwnRefusal) -> u8
     ensures { λ r. ⌜ r ≡ ownNumber refusal ⌝ }
@@ -100,7 +101,7 @@ fn without_disease(b: BaselineEntry) -> bool
 
 // Refusal 4 of a baseline.
 fn outside_limits(b: BaselineEntry, marks: [bool; 5], sizes: [u16; 5]) -> bool
-    ensures { λ r. ⌜ r ≡ outsideLimits (Baseline b) marks sizes ⌝ }
+    ensures { λ r. ⌜ r ≡ outsideLimits newUnit (Baseline b) marks sizes ⌝ }
 {
     b.assessed
         && (MOST_TARGETS < b.count
@@ -147,7 +148,7 @@ pub fn check_visit(
 
 // Refusals 4 and 5, with a spare bit that is set beside them.
 fn check_fields(entry: Entry, marks: [bool; 5], sizes: [u16; 5], spare: bool) -> CheckAnswer
-    ensures { λ c. ⌜ checkNumber c ≡ first (4 when outsideLimits entry marks sizes ∷ 5 when either spare (notZero entry marks sizes) ∷ []) ⌝ }
+    ensures { λ c. ⌜ checkNumber c ≡ first (4 when outsideLimits newUnit entry marks sizes ∷ 5 when either spare (notZero entry marks sizes) ∷ []) ⌝ }
 {
     match entry {
         Entry::Baseline(b) => {
@@ -171,7 +172,7 @@ fn check_fields(entry: Entry, marks: [bool; 5], sizes: [u16; 5], spare: bool) ->
 // The record's own refusals in the order of their numbers. What was read beside the record goes with them: a status that is none
 // is outside its limits, and a spare bit that is set is not zero.
 pub fn check_read(r: Record, badstatus: bool, spare: bool) -> CheckAnswer
-    ensures { λ c. ⌜ checkNumber c ≡ first (refusalsOfRead r badstatus spare) ⌝ }
+    ensures { λ c. ⌜ checkNumber c ≡ first (refusalsOfRead newUnit r badstatus spare) ⌝ }
 {
     let entry = r.entry;
     let marks = r.marks;
@@ -186,7 +187,7 @@ pub fn check_read(r: Record, badstatus: bool, spare: bool) -> CheckAnswer
 }
 
 pub fn check(r: Record) -> CheckAnswer
-    ensures { λ c. ⌜ checkNumber c ≡ refusalOfRecord r ⌝ }
+    ensures { λ c. ⌜ checkNumber c ≡ refusalOfRecord newUnit r ⌝ }
 {
     check_read(r, false, false)
 }

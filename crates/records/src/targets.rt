@@ -4,25 +4,27 @@ ghost use mathlib.Core.Path.{_≡_};
 ghost use Prim.Native.Nat.{ℕ};
 ghost use Rattle.laws.specs.Choice.{either};
 ghost use Rattle.records.specs.Refusals.{leastSize, sizeOutsideLimits, measuredOutsideLimits, notZeroBeyondCount, notZeroUnmeasured, someTarget};
+ghost use Rattle.records.specs.Forms.{newUnit};
 
-const LEAST_NODE: u16 = 15;
+// In tenths of a millimetre.
+const LEAST_NODE: u16 = 150;
 
-const LEAST_OTHER: u16 = 10;
+const LEAST_OTHER: u16 = 100;
 
 fn least_size(node: bool) -> u16
-    ensures { λ r. ⌜ r ≡ leastSize node ⌝ }
+    ensures { λ r. ⌜ r ≡ leastSize newUnit node ⌝ }
 {
     if node { LEAST_NODE } else { LEAST_OTHER }
 }
 
 fn size_outside_limits(count: u8, i: u8, node: bool, size: u16) -> bool
-    ensures { λ r. ⌜ r ≡ sizeOutsideLimits count i node size ⌝ }
+    ensures { λ r. ⌜ r ≡ sizeOutsideLimits newUnit count i node size ⌝ }
 {
     i < count && (size < least_size(node) || LARGEST_SIZE < size)
 }
 
 fn measured_outside_limits(measured: bool, size: u16) -> bool
-    ensures { λ r. ⌜ r ≡ measuredOutsideLimits measured size ⌝ }
+    ensures { λ r. ⌜ r ≡ measuredOutsideLimits newUnit measured size ⌝ }
 {
     measured && LARGEST_SIZE < size
 }
@@ -46,7 +48,7 @@ fn any_of_five(a: bool, b: bool, c: bool, d: bool, e: bool) -> bool
 }
 
 pub(crate) fn some_size_outside_limits(count: u8, nodes: [bool; 5], sizes: [u16; 5]) -> bool
-    ensures { λ r. ⌜ r ≡ someTarget (sizeOutsideLimits count) nodes sizes ⌝ }
+    ensures { λ r. ⌜ r ≡ someTarget (sizeOutsideLimits newUnit count) nodes sizes ⌝ }
 {
     any_of_five(
         size_outside_limits(count, 0, nodes[0], sizes[0]),
@@ -58,7 +60,7 @@ pub(crate) fn some_size_outside_limits(count: u8, nodes: [bool; 5], sizes: [u16;
 }
 
 pub(crate) fn some_measured_outside_limits(marks: [bool; 5], sizes: [u16; 5]) -> bool
-    ensures { λ r. ⌜ r ≡ someTarget (λ (i : ℕ). measuredOutsideLimits) marks sizes ⌝ }
+    ensures { λ r. ⌜ r ≡ someTarget (λ (i : ℕ). measuredOutsideLimits newUnit) marks sizes ⌝ }
 {
     any_of_five(
         measured_outside_limits(marks[0], sizes[0]),

@@ -30,40 +30,40 @@ fn stopped(refusal: FileRefusal) {
 
 // 2 to 5, a record's own, before those of opening and adding.
 fn own_refusals_of_files() {
-    // One target of 20; eleven zeros.
+    // One target of 20; thirteen zeros.
     history::show_history(
         b"no such kind\n",
-        b"\x2F\xC8\x21\x88\x14\x00\x00\x00\x00\x00\x00\x00\x00\x00\x00\x00\x00\x00\x00\x00\x00\x00",
+        b"\x2F\xC8\x21\x88\x19\x00\x00\x00\x00\x00\x00\x00\x00\x00\x00\x00\x00\x00\x00\x00\x00\x00\x00\x00\x00\x00",
     );
-    // One target of 20; a visit on day 43 (501), which reading refuses by 4.
+    // One target of 20; a visit on day 43 (500.1), which reading refuses by 4.
     history::show_history(
-        b"a measured size of 501\n",
-        b"\x2F\xC8\x21\x88\x14\x00\x00\x00\x00\x00\x00\x4F\xC8\x4C\x0B\xEA\x00\x00\x00\x00\x00\x00",
+        b"a measured size of 500.1 mm\n",
+        b"\x2F\xC8\x21\x88\x19\x00\x00\x00\x00\x00\x00\x00\x00\x4F\xC8\x4C\x0C\xE2\x40\x00\x00\x00\x00\x00\x00\x00",
     );
-    // One target of 20; a visit on day 43 (not measured, with a size of 501), which reading refuses by 5.
+    // One target of 20; a visit on day 43 (not measured, with a size of 500.1), which reading refuses by 5.
     history::show_history(
-        b"an unmeasured size of 501\n",
-        b"\x2F\xC8\x21\x88\x14\x00\x00\x00\x00\x00\x00\x4F\xC8\x4C\x03\xEA\x00\x00\x00\x00\x00\x00",
+        b"an unmeasured size of 500.1 mm\n",
+        b"\x2F\xC8\x21\x88\x19\x00\x00\x00\x00\x00\x00\x00\x00\x4F\xC8\x4C\x04\xE2\x40\x00\x00\x00\x00\x00\x00\x00",
     );
     // A baseline that is assessed, without targets and without non-target disease.
     history::show_history(
         b"assessed without disease\n",
-        b"\x2F\xC8\x21\x80\x00\x00\x00\x00\x00\x00\x00",
+        b"\x2F\xC8\x21\x80\x00\x00\x00\x00\x00\x00\x00\x00\x00",
     );
     // A baseline that is missing with count 7, which reading refuses by 5.
     history::show_history(
         b"5 alone\n",
-        b"\x2F\xC8\x21\x38\x00\x00\x00\x00\x00\x00\x00",
+        b"\x2F\xC8\x21\x38\x00\x00\x00\x00\x00\x00\x00\x00\x00",
     );
     // A visit with status 6, which reading refuses by 4; opening refuses the blank record by 3.
     history::show_history(
         b"4 before 7\n",
-        b"\x4F\xC8\x4C\xC8\x31\x03\x00\x00\x00\x00\x00",
+        b"\x4F\xC8\x4C\xC8\x3C\x20\x78\x00\x00\x00\x00\x00\x00",
     );
     // The baseline of the printed example; the same on 2020-02-30.
     history::show_history(
         b"3 before 8\n",
-        b"\x2F\xC8\x21\xD0\x28\x82\x80\x00\x00\x00\x00\x2F\xC8\x5E\xD0\x28\x82\x80\x00\x00\x00\x00",
+        b"\x2F\xC8\x21\xD0\x32\x10\x64\x00\x00\x00\x00\x00\x00\x2F\xC8\x5E\xD0\x32\x10\x64\x00\x00\x00\x00\x00\x00",
     );
 }
 
@@ -72,12 +72,12 @@ fn baseline_refusals() {
     // A therapy, which opening refuses by 7; a visit, which the blank subject refuses by 12.
     history::show_history(
         b"no baseline\n",
-        b"\x6F\xC8\x21\x00\x00\x00\x00\x00\x00\x00\x00\x4F\xC8\x4C\x48\x31\x03\x00\x00\x00\x00\x00",
+        b"\x6F\xC8\x21\x00\x00\x00\x00\x00\x00\x00\x00\x00\x00\x4F\xC8\x4C\x48\x3C\x20\x78\x00\x00\x00\x00\x00\x00",
     );
     // The baseline of the printed example twice.
     history::show_history(
         b"a second baseline\n",
-        b"\x2F\xC8\x21\xD0\x28\x82\x80\x00\x00\x00\x00\x2F\xC8\x21\xD0\x28\x82\x80\x00\x00\x00\x00",
+        b"\x2F\xC8\x21\xD0\x32\x10\x64\x00\x00\x00\x00\x00\x00\x2F\xC8\x21\xD0\x32\x10\x64\x00\x00\x00\x00\x00\x00",
     );
 }
 
@@ -86,32 +86,32 @@ fn later_refusals() {
     // The baseline of the printed example; death on day 5, therapy on day 6.
     history::show_history(
         b"after a death\n",
-        b"\x2F\xC8\x21\xD0\x28\x82\x80\x00\x00\x00\x00\x8F\xC8\x25\x00\x00\x00\x00\x00\x00\x00\x00\x6F\xC8\x26\x00\x00\x00\x00\x00\x00\x00\x00",
+        b"\x2F\xC8\x21\xD0\x32\x10\x64\x00\x00\x00\x00\x00\x00\x8F\xC8\x25\x00\x00\x00\x00\x00\x00\x00\x00\x00\x00\x6F\xC8\x26\x00\x00\x00\x00\x00\x00\x00\x00\x00\x00",
     );
     // One target of 20; death on day 5, a visit on day 4 (20).
     history::show_history(
         b"9 before 10\n",
-        b"\x2F\xC8\x21\x88\x14\x00\x00\x00\x00\x00\x00\x8F\xC8\x25\x00\x00\x00\x00\x00\x00\x00\x00\x4F\xC8\x24\x08\x28\x00\x00\x00\x00\x00\x00",
+        b"\x2F\xC8\x21\x88\x19\x00\x00\x00\x00\x00\x00\x00\x00\x8F\xC8\x25\x00\x00\x00\x00\x00\x00\x00\x00\x00\x00\x4F\xC8\x24\x08\x32\x00\x00\x00\x00\x00\x00\x00\x00",
     );
     // The baseline of the printed example; a visit on day 1, which 10 meets.
     history::show_history(
         b"a visit on day 1\n",
-        b"\x2F\xC8\x21\xD0\x28\x82\x80\x00\x00\x00\x00\x4F\xC8\x21\x48\x31\x03\x00\x00\x00\x00\x00",
+        b"\x2F\xC8\x21\xD0\x32\x10\x64\x00\x00\x00\x00\x00\x00\x4F\xC8\x21\x48\x3C\x20\x78\x00\x00\x00\x00\x00\x00",
     );
     // The baseline of the printed example; a therapy on 2019-12-31, which 10 meets.
     history::show_history(
         b"before randomisation\n",
-        b"\x2F\xC8\x21\xD0\x28\x82\x80\x00\x00\x00\x00\x6F\xC7\x9F\x00\x00\x00\x00\x00\x00\x00\x00",
+        b"\x2F\xC8\x21\xD0\x32\x10\x64\x00\x00\x00\x00\x00\x00\x6F\xC7\x9F\x00\x00\x00\x00\x00\x00\x00\x00\x00\x00",
     );
     // One target of 20; visits on day 43 (20), and on the same day with two measured.
     history::show_history(
         b"10 before 11\n",
-        b"\x2F\xC8\x21\x88\x14\x00\x00\x00\x00\x00\x00\x4F\xC8\x4C\x08\x28\x00\x00\x00\x00\x00\x00\x4F\xC8\x4C\x08\x29\x02\x80\x00\x00\x00\x00",
+        b"\x2F\xC8\x21\x88\x19\x00\x00\x00\x00\x00\x00\x00\x00\x4F\xC8\x4C\x08\x32\x00\x00\x00\x00\x00\x00\x00\x00\x4F\xC8\x4C\x08\x32\x20\x64\x00\x00\x00\x00\x00\x00",
     );
     // One target of 20; a visit on day 43 with two measured.
     history::show_history(
         b"a target beyond the count\n",
-        b"\x2F\xC8\x21\x88\x14\x00\x00\x00\x00\x00\x00\x4F\xC8\x4C\x08\x29\x05\x00\x00\x00\x00\x00",
+        b"\x2F\xC8\x21\x88\x19\x00\x00\x00\x00\x00\x00\x00\x00\x4F\xC8\x4C\x08\x32\x20\xC8\x00\x00\x00\x00\x00\x00",
     );
 }
 
@@ -121,13 +121,13 @@ fn lengths() {
     history::show_file(b"no bytes\n", b"");
     // The first baseline and one byte more.
     history::show_file(
-        b"twelve bytes\n",
-        b"\x2F\xC8\x21\xD0\x28\x82\x80\x00\x00\x00\x00\x00",
+        b"fourteen bytes\n",
+        b"\x2F\xC8\x21\xD0\x32\x10\x64\x00\x00\x00\x00\x00\x00\x00",
     );
-    let zeros = [0u8; 44011];
-    history::show_file(b"44,011 bytes\n", &zeros);
-    history::show_file(b"44,001 bytes\n", &zeros[..44001]);
-    history::show_file(b"44,000 bytes\n", &zeros[..44000]);
+    let zeros = [0u8; 52013];
+    history::show_file(b"52,013 bytes\n", &zeros);
+    history::show_file(b"52,001 bytes\n", &zeros[..52001]);
+    history::show_file(b"52,000 bytes\n", &zeros[..52000]);
 }
 
 fn print_own(refusal: OwnRefusal) {
@@ -138,7 +138,7 @@ fn print_own(refusal: OwnRefusal) {
 fn print_read(answer: ReadAnswer) {
     match answer {
         ReadAnswer::Done => text(b"0\n"),
-        ReadAnswer::NotElevenBytes => text(b"1\n"),
+        ReadAnswer::WrongLength => text(b"1\n"),
         ReadAnswer::NoSuchKind => text(b"2\n"),
         ReadAnswer::Refused(own) => print_own(own),
     }
@@ -164,19 +164,19 @@ fn print_added(answer: AddAnswer) {
 
 // 1 and 6 meet no file.
 fn bytes_of_one() {
-    let baseline = codec::read(b"\x2F\xC8\x21\xD0\x28\x82\x80\x00\x00\x00\x00");
+    let baseline = codec::read(b"\x2F\xC8\x21\xD0\x32\x10\x64\x00\x00\x00\x00\x00\x00");
     let found = baseline.found;
-    let short = codec::read(b"\x2F\xC8\x21\xD0\x28\x82\x80\x00\x00\x00");
+    let short = codec::read(b"\x2F\xC8\x21\xD0\x32\x10\x64\x00\x00\x00\x00\x00");
     let unread = short.answer;
-    text(b"ten bytes read\n");
+    text(b"twelve bytes read\n");
     print_read(unread);
-    let mut out = [0u8; 10];
+    let mut out = [0u8; 12];
     let unwritten = writing::write(found, &mut out);
-    text(b"into ten bytes written\n");
+    text(b"into twelve bytes written\n");
     print_written(unwritten);
 }
 
-// What opening, adding, adding to a subject out of range, and writing into ten bytes answer for a record that 4 or 5 meets.
+// What opening, adding, adding to a subject out of range, and writing into twelve bytes answer for a record that 4 or 5 meets.
 fn own_refusal(name: &[u8], r: Record, held: Subject) {
     text(name);
     let opened = subject::open_subject(r);
@@ -190,14 +190,14 @@ fn own_refusal(name: &[u8], r: Record, held: Subject) {
     let unjudged = outside.answer;
     print_added(unjudged);
     text(b"\n");
-    let mut out = [0u8; 10];
+    let mut out = [0u8; 12];
     let unwritten = writing::write(r, &mut out);
     print_written(unwritten);
 }
 
-// The baseline of the printed example, and that baseline with a size of 501, and with a size beyond the count.
+// The baseline of the printed example, and that baseline with a size of 500.1 mm, and with a size beyond the count.
 fn own_refusals() {
-    let baseline = codec::read(b"\x2F\xC8\x21\xD0\x28\x82\x80\x00\x00\x00\x00");
+    let baseline = codec::read(b"\x2F\xC8\x21\xD0\x32\x10\x64\x00\x00\x00\x00\x00\x00");
     let found = baseline.found;
     let entry = found.entry;
     let marks = found.marks;
@@ -205,12 +205,12 @@ fn own_refusals() {
     let held = opened.subject;
     let large = Record {
         entry: entry,
-        sizes: [501, 20, 0, 0, 0],
+        sizes: [5001, 200, 0, 0, 0],
         marks: marks,
     };
     let beyond = Record {
         entry: entry,
-        sizes: [40, 20, 1, 0, 0],
+        sizes: [400, 200, 1, 0, 0],
         marks: marks,
     };
     own_refusal(b"4 by the calls\n", large, held);
@@ -219,7 +219,7 @@ fn own_refusals() {
 
 // 14 on a held subject that no lawful list leads to: PFS is censored on day 43, and the first response is on day 50.
 fn late_response() {
-    let baseline = codec::read(b"\x2F\xC8\x21\xD0\x28\x82\x80\x00\x00\x00\x00");
+    let baseline = codec::read(b"\x2F\xC8\x21\xD0\x32\x10\x64\x00\x00\x00\x00\x00\x00");
     let found = baseline.found;
     let opened = subject::open_subject(found);
     let s = opened.subject;
@@ -263,7 +263,7 @@ fn longest_file() {
     longest(&bytes[..read.count]);
 }
 
-// Randomisation is on 2020-01-01 in each history but the longest.
+// Randomisation is on 2020-01-01 in each history but the longest. Sizes are given in millimetres.
 fn main() {
     own_refusals_of_files();
     baseline_refusals();

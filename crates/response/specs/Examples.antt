@@ -22,14 +22,14 @@ answered nadir measured sizes =
 
 pub record JudgedVisits : Type 0 where
   -- days 43, 85 and 127
-  pub day43 : answered 60 (true ∷ true ∷ []) (24 ∷ 12 ∷ [])
-      (record { target = T.PR; overall = O.PR; change = C.Decrease 400; after = record { nadir = 36 } })
-  pub day85 : answered 36 (true ∷ true ∷ []) (0 ∷ 9 ∷ [])
-      (record { target = T.CR; overall = O.PR; change = C.Decrease 850; after = record { nadir = 9 } })
-  pub day127 : answered 9 (true ∷ true ∷ []) (0 ∷ 15 ∷ [])
-      (record { target = T.PD; overall = O.PD; change = C.Decrease 750; after = record { nadir = 9 } })
-  -- the node unmeasured; the target, which is no node, at 5
-  pub nodeUnmeasured : answered 36 (true ∷ []) (0 ∷ [])
-      (record { target = T.NE; overall = O.NE; change = C.Absent; after = record { nadir = 36 } })
-  pub otherLeft : answered 36 (true ∷ true ∷ []) (5 ∷ 9 ∷ [])
-      (record { target = T.PR; overall = O.PR; change = C.Decrease 767; after = record { nadir = 14 } })
+  pub day43 : answered 600 (true ∷ true ∷ []) (240 ∷ 120 ∷ [])
+      (record { target = T.PR; overall = O.PR; change = C.Decrease 400; after = record { nadir = 360 } })
+  pub day85 : answered 360 (true ∷ true ∷ []) (0 ∷ 90 ∷ [])
+      (record { target = T.CR; overall = O.PR; change = C.Decrease 850; after = record { nadir = 90 } })
+  pub day127 : answered 90 (true ∷ true ∷ []) (0 ∷ 150 ∷ [])
+      (record { target = T.PD; overall = O.PD; change = C.Decrease 750; after = record { nadir = 90 } })
+  -- the node unmeasured; the target, which is no node, at 5.0 mm
+  pub nodeUnmeasured : answered 360 (true ∷ []) (0 ∷ [])
+      (record { target = T.NE; overall = O.NE; change = C.Absent; after = record { nadir = 360 } })
+  pub otherLeft : answered 360 (true ∷ true ∷ []) (50 ∷ 90 ∷ [])
+      (record { target = T.PR; overall = O.PR; change = C.Decrease 767; after = record { nadir = 140 } })

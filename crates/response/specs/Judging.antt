@@ -5,6 +5,7 @@ use mathlib.Core.Bool.{Bool}
 use mathlib.Core.List.{List, []}
 use Prim.Native.Nat.{ℕ}
 use Rattle.records.specs.declared.BaselineEntry.{BaselineEntry}
+use Rattle.records.specs.Forms.{newUnit}
 use Rattle.response_rules.specs.Words.{targetWord, overallWord}
 use Rattle.response_rules.specs.Inputs.{Visit, diseaseOf}
 use Rattle.response_rules.specs.TargetAnswer.{targetAnswer}
@@ -21,7 +22,7 @@ pub record JudgesBaseline (entry : BaselineEntry) (nodes : List Bool) (sizes : L
   pub after : a .after ≡ earlierOf (diseaseOf entry nodes sizes) []
 
 pub record JudgesVisit (b : BaselineDisease) (e : Earlier) (v : Visit) (a : VisitAnswer) : Type 0 where
-  pub target : targetWord (a .target) ≡ targetAnswer b e v
-  pub overall : overallWord (a .overall) ≡ overallAnswer b e v
+  pub target : targetWord (a .target) ≡ targetAnswer newUnit b e v
+  pub overall : overallWord (a .overall) ≡ overallAnswer newUnit b e v
   pub change : changeValues (a .change) ≡ changeOf b v
   pub after : a .after ≡ afterVisit b e v

@@ -8,12 +8,13 @@ ghost use mathlib.Core.Path.{_≡_};
 ghost use Rattle.response_rules.specs.Words.{targetWord};
 ghost use Rattle.response_rules.specs.Inputs.{Visit};
 ghost use Rattle.response_rules.specs.TargetAnswer.{disappeared, allDisappeared, progressionFromNadir, partialResponse, targetAnswer};
+ghost use Rattle.records.specs.Forms.{newUnit};
 
-// In millimetres; document 02 calls a node below 10 mm normal.
-const NORMAL_SHORT_AXIS: u16 = 9;
+// In tenths of a millimetre; document 02 calls a node below 10 mm normal.
+const NORMAL_BELOW: u16 = 100;
 
-// Progression: millimetres above the nadir, and fifths of it.
-const PROGRESSION_INCREASE: u64 = 5;
+// Progression: tenths of a millimetre above the nadir, and fifths of it.
+const PROGRESSION_INCREASE: u64 = 50;
 
 const PROGRESSION_FIFTHS: u64 = 6;
 
@@ -21,13 +22,13 @@ const PROGRESSION_FIFTHS: u64 = 6;
 const PARTIAL_RESPONSE_TENTHS: u64 = 7;
 
 fn has_disappeared(node: bool, size: u16) -> bool
-    ensures { λ r. ⌜ r ≡ disappeared node size ⌝ }
+    ensures { λ r. ⌜ r ≡ disappeared newUnit node size ⌝ }
 {
-    (size == 0) | (node & (size <= NORMAL_SHORT_AXIS))
+    (size == 0) | (node & (size < NORMAL_BELOW))
 }
 
 fn all_disappeared(count: u8, nodes: [bool; 5], sizes: [u16; 5]) -> bool
-    ensures { λ r. ⌜ r ≡ allDisappeared count nodes sizes ⌝ }
+    ensures { λ r. ⌜ r ≡ allDisappeared newUnit count nodes sizes ⌝ }
 {
     (count <= 0 || has_disappeared(nodes[0], sizes[0]))
         && ((count <= 1 || has_disappeared(nodes[1], sizes[1]))
@@ -37,7 +38,7 @@ fn all_disappeared(count: u8, nodes: [bool; 5], sizes: [u16; 5]) -> bool
 }
 
 fn progression_from_nadir(nadir: u32, sum: u32) -> bool
-    ensures { λ r. ⌜ r ≡ progressionFromNadir nadir sum ⌝ }
+    ensures { λ r. ⌜ r ≡ progressionFromNadir newUnit nadir sum ⌝ }
 {
     nadir as u64 + PROGRESSION_INCREASE <= sum as u64
         && PROGRESSION_FIFTHS * nadir as u64 <= 5 * sum as u64
@@ -55,7 +56,7 @@ pub(crate) fn target_answer(
     measured: [bool; 5],
     sizes: [u16; 5],
 ) -> TargetAnswer
-    ensures { λ r. ⌜ ((v : Visit) → measured ≡ v .measured → sizes ≡ v .sizes → targetWord r ≡ targetAnswer baseline earlier v) ⌝ }
+    ensures { λ r. ⌜ ((v : Visit) → measured ≡ v .measured → sizes ≡ v .sizes → targetWord r ≡ targetAnswer newUnit baseline earlier v) ⌝ }
 {
     if baseline.count == 0 {
         return TargetAnswer::NA;

@@ -7,7 +7,7 @@ use Rattle.response_rules.specs.Nadir.{afterVisit, nadirOf}
 use Rattle.response_rules.specs.OverallAnswer.{overallBy}
 use Rattle.response_rules.specs.Change.{changeBetween, changeOf}
 use Rattle.response_rules.specs.VisitAnswers.{overallAnswer}
-use Rattle.response_rules.specs.Examples.{Edges, OrdersAndPlaces, GridRows, OverallAlone, Nadirs, NadirsByTheTerm, WrongReadings, Printed, Changes, WordsOfCases}
+use Rattle.response_rules.specs.Examples.{Edges, OrdersAndPlaces, GridRows, OverallAlone, Nadirs, NadirsByTheTerm, WrongReadings, Printed, Changes, InMillimetres, WordsOfCases}
 
 pub edges : Edges
 unfolding sumOfDiameters baselineSum allMeasured allDisappeared progressionFromNadir partialResponse targetAnswer afterVisit
@@ -15,12 +15,17 @@ edges =
     record {
       sum70 = refl;
       sum71 = refl;
+      sum701 = refl;
       sum24 = refl;
       sum25 = refl;
+      grownBy49 = refl;
+      grownBy50 = refl;
       sum59 = refl;
       sum60 = refl;
+      sum599 = refl;
       node9 = refl;
       node10 = refl;
+      node99 = refl;
       oneMeasured = refl;
     }
 
@@ -107,6 +112,10 @@ changes =
       lessThanHalf = refl;
       barelyLess = refl;
     }
+
+pub in-millimetres : InMillimetres
+unfolding sumOfDiameters baselineSum allMeasured allDisappeared progressionFromNadir partialResponse targetAnswer afterVisit
+in-millimetres = record { node9 = refl; node10 = refl; sum24 = refl; sum25 = refl; sum70 = refl; sum71 = refl }
 
 pub words-of-cases : WordsOfCases
 words-of-cases = record { targets = refl; nontargets = refl; overalls = refl; changes = refl }

@@ -20,12 +20,12 @@ use Rattle.response_rules.specs.Laws.{OverallLaws, NadirLaws, ChangeLaws
 use Rattle.response_rules.specs.declared.BaselineDisease.{BaselineDisease}
 
 -- the overall answer of a visit, by what its parts are known to be
-overall-is : (b : BaselineDisease) (vs : List Visit) (v : Visit) (a n : Bool) (t s : Word) → b .assessed ≡ a → v .newLesion ≡ n →
-    targetAnswerAfter b vs v ≡ t → statusWord (v .status) ≡ s → overallAnswerAfter b vs v ≡ overallBy a n t s
+overall-is : (unit : ℕ) (b : BaselineDisease) (vs : List Visit) (v : Visit) (a n : Bool) (t s : Word) → b .assessed ≡ a → v .newLesion ≡ n →
+    targetAnswerAfter unit b vs v ≡ t → statusWord (v .status) ≡ s → overallAnswerAfter unit b vs v ≡ overallBy a n t s
 unfolding overallAnswer
-overall-is b vs v a n t s e f g h =
-    ap (λ (x : Bool). overallBy x (v .newLesion) (targetAnswerAfter b vs v) (statusWord (v .status))) e
-    ∙ ap (λ (x : Bool). overallBy a x (targetAnswerAfter b vs v) (statusWord (v .status))) f
+overall-is unit b vs v a n t s e f g h =
+    ap (λ (x : Bool). overallBy x (v .newLesion) (targetAnswerAfter unit b vs v) (statusWord (v .status))) e
+    ∙ ap (λ (x : Bool). overallBy a x (targetAnswerAfter unit b vs v) (statusWord (v .status))) f
     ∙ ap (λ (x : Word). overallBy a n x (statusWord (v .status))) g
     ∙ ap (λ (x : Word). overallBy a n t x) h
 
@@ -48,18 +48,18 @@ unfolding overallBy
 pd-nontarget true t = refl
 pd-nontarget false t = rw (either-with-true (isPD t))
 
-module _ (b : BaselineDisease) (vs : List Visit) (v : Visit) where
-  missing : b .assessed ≡ false → overallAnswerAfter b vs v ≡ NE
-  missing e = overall-is b vs v false _ _ _ e refl refl refl ∙ not-assessed _ _ _
+module _ (unit : ℕ) (b : BaselineDisease) (vs : List Visit) (v : Visit) where
+  missing : b .assessed ≡ false → overallAnswerAfter unit b vs v ≡ NE
+  missing e = overall-is unit b vs v false _ _ _ e refl refl refl ∙ not-assessed _ _ _
 
-  new-lesion : b .assessed ≡ true → v .newLesion ≡ true → overallAnswerAfter b vs v ≡ PD
-  new-lesion e n = overall-is b vs v true true _ _ e n refl refl ∙ newly-seen _ _
+  new-lesion : b .assessed ≡ true → v .newLesion ≡ true → overallAnswerAfter unit b vs v ≡ PD
+  new-lesion e n = overall-is unit b vs v true true _ _ e n refl refl ∙ newly-seen _ _
 
-  target-pd : b .assessed ≡ true → targetAnswerAfter b vs v ≡ PD → overallAnswerAfter b vs v ≡ PD
-  target-pd e t = overall-is b vs v true _ PD _ e refl t refl ∙ pd-target _ _
+  target-pd : b .assessed ≡ true → targetAnswerAfter unit b vs v ≡ PD → overallAnswerAfter unit b vs v ≡ PD
+  target-pd e t = overall-is unit b vs v true _ PD _ e refl t refl ∙ pd-target _ _
 
-  nontarget-pd : b .assessed ≡ true → statusWord (v .status) ≡ PD → overallAnswerAfter b vs v ≡ PD
-  nontarget-pd e s = overall-is b vs v true _ _ PD e refl refl s ∙ pd-nontarget _ _
+  nontarget-pd : b .assessed ≡ true → statusWord (v .status) ≡ PD → overallAnswerAfter unit b vs v ≡ PD
+  nontarget-pd e s = overall-is unit b vs v true _ _ PD e refl refl s ∙ pd-nontarget _ _
 
 pub overall-laws : OverallLaws
 overall-laws = record { missing = missing; newLesion = new-lesion; targetPD = target-pd; nontargetPD = nontarget-pd }

@@ -1,3 +1,4 @@
 pub mod WordsByCode
 pub mod AtTheEdges
 pub mod Laws
+pub mod Tenfold

@@ -14,12 +14,12 @@ use Rattle.response_rules.specs.declared.BaselineDisease.{BaselineDiseas
 
 pub record OverallLaws : Type 0 where
   -- with baseline missing every overall answer is NE, new lesion or not
-  pub missing : (b : BaselineDisease) (vs : List Visit) (v : Visit) → b .assessed ≡ false → overallAnswerAfter b vs v ≡ NE
+  pub missing : (unit : ℕ) (b : BaselineDisease) (vs : List Visit) (v : Visit) → b .assessed ≡ false → overallAnswerAfter unit b vs v ≡ NE
   -- a new lesion, target PD or non-target PD gives PD
-  pub newLesion : (b : BaselineDisease) (vs : List Visit) (v : Visit) → b .assessed ≡ true → v .newLesion ≡ true → overallAnswerAfter b vs v ≡ PD
-  pub targetPD : (b : BaselineDisease) (vs : List Visit) (v : Visit) → b .assessed ≡ true → targetAnswerAfter b vs v ≡ PD → overallAnswerAfter b vs v ≡ PD
-  pub nontargetPD : (b : BaselineDisease) (vs : List Visit) (v : Visit) → b .assessed ≡ true → statusWord (v .status) ≡ PD →
-      overallAnswerAfter b vs v ≡ PD
+  pub newLesion : (unit : ℕ) (b : BaselineDisease) (vs : List Visit) (v : Visit) → b .assessed ≡ true → v .newLesion ≡ true → overallAnswerAfter unit b vs v ≡ PD
+  pub targetPD : (unit : ℕ) (b : BaselineDisease) (vs : List Visit) (v : Visit) → b .assessed ≡ true → targetAnswerAfter unit b vs v ≡ PD → overallAnswerAfter unit b vs v ≡ PD
+  pub nontargetPD : (unit : ℕ) (b : BaselineDisease) (vs : List Visit) (v : Visit) → b .assessed ≡ true → statusWord (v .status) ≡ PD →
+      overallAnswerAfter unit b vs v ≡ PD
 
 pub record NadirLaws : Type 0 where
   -- what earlier visits leave is the nadir of document 01

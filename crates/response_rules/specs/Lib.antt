@@ -6,5 +6,6 @@ pub mod Nadir
 pub mod OverallAnswer
 pub mod Change
 pub mod VisitAnswers
+pub mod Tenfold
 pub mod Examples
 pub mod Laws

@@ -27,6 +27,7 @@ use Rattle.records.specs.Refusals.{ownNumber, checkNumber, refusalsOfRead, refu
 use Rattle.records.specs.declared.OwnRefusal.{OwnRefusal}
 use Rattle.records.proofs.NoOwnRefusal.{own-not-0, after-own}
 use Rattle.dates.specs.Calendar.{dateExists}
+use Rattle.records.specs.Forms.{newForm, newUnit}
 use Rattle.codec.specs.declared.ReadAnswer.the-variants as R
 use Rattle.codec.specs.declared.ReadResult.{ReadResult}
 use Rattle.codec.specs.Reading.{readNumber, refusalOfBytes, recordOfBytes, blankRecord, Reads}
@@ -87,19 +88,19 @@ module _ (e : Entry) (marks : List Bool) (sizes : List ℕ) where
     checked-death d k = record { answer = rw (q .0, k); made = q .1 ∙ rw k }
 
 -- a record that none of its own refusals meets
-opened-checked : (r : Record) (a : OpenAnswer) (t : Subject) → refusalOfRecord r ≡ 0 → OpensChecked (r .entry) (r .marks) (r .sizes) a t →
-    (openNumber a ≡ refusalOfOpening r) × (t ≡ openedSubject r)
+opened-checked : (r : Record) (a : OpenAnswer) (t : Subject) → refusalOfRecord newUnit r ≡ 0 → OpensChecked (r .entry) (r .marks) (r .sizes) a t →
+    (openNumber a ≡ refusalOfOpening newUnit r) × (t ≡ openedSubject r)
 unfolding openedSubject refusalsOfOpening
 opened-checked r a t passed q =
-    let behind : refusalOfOpening r ≡ first (7 when notBaseline (r .entry) ∷ []) = after-own r _ ∙ rw passed in
+    let behind : refusalOfOpening newUnit r ≡ first (7 when notBaseline (r .entry) ∷ []) = after-own newUnit r _ ∙ rw passed in
     (q .answer ∙ sym behind, q .made ∙ rw behind (only-baseline (r .entry) (r .marks) (r .sizes)))
 
-module _ (r : Record) (five : Five r) (c : CheckAnswer) (e : checkNumber c ≡ refusalOfRecord r) (x : OpenResult) where
+module _ (r : Record) (five : Five r) (c : CheckAnswer) (e : checkNumber c ≡ refusalOfRecord newUnit r) (x : OpenResult) where
   pub opens-refused : (own : OwnRefusal) → c ≡ C.Refused own → (x .answer ≡ N.Refused own) × (x .subject ≡ blankSubject) → Opens r (x .answer) (x .subject)
   unfolding openedSubject refusalsOfOpening
   opens-refused own p q =
-      let checked : refusalOfRecord r ≡ ownNumber own = sym e ∙ ap checkNumber p in
-      let met : refusalOfOpening r ≡ ownNumber own = after-own r _ ∙ rw (checked, own-not-0 own) in
+      let checked : refusalOfRecord newUnit r ≡ ownNumber own = sym e ∙ ap checkNumber p in
+      let met : refusalOfOpening newUnit r ≡ ownNumber own = after-own newUnit r _ ∙ rw (checked, own-not-0 own) in
       record { answer = ap openNumber (q .0) ∙ sym met; made = q .1 ∙ rw (met, own-not-0 own); five = five }
 
   pub opens-passed : c ≡ C.Passed → OpensChecked (r .entry) (r .marks) (r .sizes) (x .answer) (x .subject) → Opens r (x .answer) (x .subject)
@@ -119,15 +120,15 @@ module _ (s : List ℕ) (read : ReadResult) (w : Reads s read) (x : OpenResult) 
       OpensBytes s (x .answer) (x .subject)
   unfolding recordOfBytes
   bytes-refused a p not-zero q =
-      let met : refusalOfBytes s ≡ openNumber a = sym (w .answer) ∙ p in
+      let met : refusalOfBytes newForm s ≡ openNumber a = sym (w .answer) ∙ p in
       record {
-        answer = ap openNumber (q .0) ∙ sym (after-reading s _ ∙ rw (met, not-zero));
+        answer = ap openNumber (q .0) ∙ sym (after-reading newForm s _ ∙ rw (met, not-zero));
         made = q .1 ∙ rw (met, not-zero) (sym blank-opens-none);
         octets = w .octets;
       }
 
-  pub bytes-short : read .answer ≡ R.NotElevenBytes → (x .answer ≡ N.NotElevenBytes) × (x .subject ≡ blankSubject) → OpensBytes s (x .answer) (x .subject)
-  bytes-short p q = bytes-refused N.NotElevenBytes (ap readNumber p) refl q
+  pub bytes-short : read .answer ≡ R.WrongLength → (x .answer ≡ N.WrongLength) × (x .subject ≡ blankSubject) → OpensBytes s (x .answer) (x .subject)
+  bytes-short p q = bytes-refused N.WrongLength (ap readNumber p) refl q
 
   pub bytes-no-kind : read .answer ≡ R.NoSuchKind → (x .answer ≡ N.NoSuchKind) × (x .subject ≡ blankSubject) → OpensBytes s (x .answer) (x .subject)
   bytes-no-kind p q = bytes-refused N.NoSuchKind (ap readNumber p) refl q
@@ -138,9 +139,9 @@ module _ (s : List ℕ) (read : ReadResult) (w : Reads s read) (x : OpenResult) 
   pub bytes-read : read .answer ≡ R.Done → OpensChecked (read .found .entry) (read .found .marks) (read .found .sizes) (x .answer) (x .subject) →
       OpensBytes s (x .answer) (x .subject)
   bytes-read p q =
-      let r = recordOfBytes s in
-      let none : refusalOfBytes s ≡ 0 = sym (w .answer) ∙ ap readNumber p in
+      let r = recordOfBytes newForm s in
+      let none : refusalOfBytes newForm s ≡ 0 = sym (w .answer) ∙ ap readNumber p in
       let checked : OpensChecked (r .entry) (r .marks) (r .sizes) (x .answer) (x .subject) =
       subst (λ (y : Record). OpensChecked (y .entry) (y .marks) (y .sizes) (x .answer) (x .subject)) (w .found) q in
-      let opened = opened-checked r (x .answer) (x .subject) (found-fine s (w .octets) none) checked in
-      record { answer = opened .0 ∙ sym (after-reading s (refusalsOfOpening r) ∙ rw none); made = opened .1; octets = w .octets }
+      let opened = opened-checked r (x .answer) (x .subject) (found-fine newForm s (w .octets) none) checked in
+      record { answer = opened .0 ∙ sym (after-reading newForm s (refusalsOfOpening newUnit r) ∙ rw none); made = opened .1; octets = w .octets }

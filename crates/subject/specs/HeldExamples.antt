@@ -67,46 +67,46 @@ subjectWith randomisation nontarget baseline nadir latest treated dead event cou
 
 -- the subject of the printed example, by nadir, latest day, therapy, death, and what visits left
 abbrev pub printedWith : ℕ → ℕ → Bool → MaybeDay → EventDays → CountingVisits → Subject
-printedWith = subjectWith (ymd 2020 1 1) true (disease true 2 60)
+printedWith = subjectWith (ymd 2020 1 1) true (disease true 2 600)
 
--- after its baseline, and after its visit of day 43 with a sum of 36
+-- after its baseline, and after its visit of day 43 with a sum of 36.0 mm
 abbrev pub printedOpened : Subject
-printedOpened = printedWith 60 1 false M.Absent noEvents noCounts
+printedOpened = printedWith 600 1 false M.Absent noEvents noCounts
 
 abbrev pub printedAfterVisit43 : Subject
-printedAfterVisit43 = printedWith 36 43 false M.Absent (events M.Absent 43 (onDay 43)) (counts (onDay 43) M.Absent B.SD)
+printedAfterVisit43 = printedWith 360 43 false M.Absent (events M.Absent 43 (onDay 43)) (counts (onDay 43) M.Absent B.SD)
 
 -- after a baseline, by randomisation date, target count, sum and nadir
 abbrev pub afterBaseline : Date → ℕ → ℕ → ℕ → Subject
 afterBaseline date count sum nadir = subjectWith date true (disease true count sum) nadir 1 false M.Absent noEvents noCounts
 
--- a day 0 or over 40,177, a sum over 2,500, a target count over 5 or a randomisation date that 3 would meet; an absent day has its own mark
+-- a day 0 or over 40,177, a sum over 25,000, a target count over 5 or a randomisation date that 3 would meet; an absent day has its own mark
 pub record RangeAtTheEdges : Type 0 where
   pub opened : inRange printedOpened ≡ true
   pub most : inRange
-      (subjectWith (ymd 2020 1 1) true (disease true 5 2500) 2500 40177 false (onDay 40177) (events (onDay 40177) 40177 (onDay 40177))
+      (subjectWith (ymd 2020 1 1) true (disease true 5 25000) 25000 40177 false (onDay 40177) (events (onDay 40177) 40177 (onDay 40177))
       (counts (onDay 40177) (onDay 40177) B.CR))
       ≡ true
   pub least : inRange
       (subjectWith (ymd 2020 1 1) true (disease true 0 0) 0 1 false (onDay 1) (events (onDay 1) 1 (onDay 1))
       (counts (onDay 1) (onDay 1) B.NE))
       ≡ true
-  pub noDate : inRange (afterBaseline (ymd 2021 2 29) 2 60 60) ≡ false
-  pub count6 : inRange (afterBaseline (ymd 2020 1 1) 6 60 60) ≡ false
-  pub sum2501 : inRange (afterBaseline (ymd 2020 1 1) 2 2501 60) ≡ false
-  pub nadir2501 : inRange (afterBaseline (ymd 2020 1 1) 2 60 2501) ≡ false
+  pub noDate : inRange (afterBaseline (ymd 2021 2 29) 2 600 600) ≡ false
+  pub count6 : inRange (afterBaseline (ymd 2020 1 1) 6 600 600) ≡ false
+  pub sum25001 : inRange (afterBaseline (ymd 2020 1 1) 2 25001 600) ≡ false
+  pub nadir25001 : inRange (afterBaseline (ymd 2020 1 1) 2 600 25001) ≡ false
   -- the latest day, death, progression, v, the last evaluable visit, the first response and the start of the last run of CR: 0 and 40,178
-  pub latest : map (λ (d : ℕ). inRange (printedWith 60 d false M.Absent noEvents noCounts)) (0 ∷ 40178 ∷ []) ≡ false ∷ false ∷ []
-  pub death : map (λ (d : ℕ). inRange (printedWith 60 1 false (onDay d) noEvents noCounts)) (0 ∷ 40178 ∷ []) ≡ false ∷ false ∷ []
-  pub progression : map (λ (d : ℕ). inRange (printedWith 60 1 false M.Absent (events (onDay d) 1 M.Absent) noCounts)) (0 ∷ 40178 ∷ [])
+  pub latest : map (λ (d : ℕ). inRange (printedWith 600 d false M.Absent noEvents noCounts)) (0 ∷ 40178 ∷ []) ≡ false ∷ false ∷ []
+  pub death : map (λ (d : ℕ). inRange (printedWith 600 1 false (onDay d) noEvents noCounts)) (0 ∷ 40178 ∷ []) ≡ false ∷ false ∷ []
+  pub progression : map (λ (d : ℕ). inRange (printedWith 600 1 false M.Absent (events (onDay d) 1 M.Absent) noCounts)) (0 ∷ 40178 ∷ [])
       ≡ false ∷ false ∷ []
-  pub lastvisit : map (λ (d : ℕ). inRange (printedWith 60 1 false M.Absent (events M.Absent d M.Absent) noCounts)) (0 ∷ 40178 ∷ [])
+  pub lastvisit : map (λ (d : ℕ). inRange (printedWith 600 1 false M.Absent (events M.Absent d M.Absent) noCounts)) (0 ∷ 40178 ∷ [])
       ≡ false ∷ false ∷ []
-  pub lastevaluable : map (λ (d : ℕ). inRange (printedWith 60 1 false M.Absent (events M.Absent 1 (onDay d)) noCounts)) (0 ∷ 40178 ∷ [])
+  pub lastevaluable : map (λ (d : ℕ). inRange (printedWith 600 1 false M.Absent (events M.Absent 1 (onDay d)) noCounts)) (0 ∷ 40178 ∷ [])
       ≡ false ∷ false ∷ []
-  pub firstresponse : map (λ (d : ℕ). inRange (printedWith 60 1 false M.Absent noEvents (counts (onDay d) M.Absent B.NE))) (0 ∷ 40178 ∷ [])
+  pub firstresponse : map (λ (d : ℕ). inRange (printedWith 600 1 false M.Absent noEvents (counts (onDay d) M.Absent B.NE))) (0 ∷ 40178 ∷ [])
       ≡ false ∷ false ∷ []
-  pub crstart : map (λ (d : ℕ). inRange (printedWith 60 1 false M.Absent noEvents (counts M.Absent (onDay d) B.NE))) (0 ∷ 40178 ∷ [])
+  pub crstart : map (λ (d : ℕ). inRange (printedWith 600 1 false M.Absent noEvents (counts M.Absent (onDay d) B.NE))) (0 ∷ 40178 ∷ [])
       ≡ false ∷ false ∷ []
 
 -- SD 43, NE 85, PD 127, SD 169 or PD 169: v moves with each visit before the progression, which is the first PD, the last evaluable visit with SD
@@ -206,9 +206,9 @@ pub record CountsOfVisits : Type 0 where
 abbrev pub heldAfter : Baseline → List StudyRecord → Subject
 heldAfter b rs = summary (ymd 2020 1 1) b (reverse rs)
 
--- a subject with one target of 100 and no other disease, by nadir, latest day, therapy, death, and what visits left
+-- a subject with one target of 100 mm and no other disease, by nadir, latest day, therapy, death, and what visits left
 abbrev pub oneTargetWith : ℕ → ℕ → Bool → MaybeDay → EventDays → CountingVisits → Subject
-oneTargetWith = subjectWith (ymd 2020 1 1) false (record { assessed = true; count = 1; nodes = fivePlaces false []; baselinesum = 100 })
+oneTargetWith = subjectWith (ymd 2020 1 1) false (record { assessed = true; count = 1; nodes = fivePlaces false []; baselinesum = 1000 })
 
 -- a subject with baseline missing, by the same
 abbrev pub missingWith : ℕ → ℕ → Bool → MaybeDay → EventDays → CountingVisits → Subject
@@ -219,22 +219,22 @@ pub record HeldOfRecords : Type 0 where
   pub opened : heldAfter withNode [] ≡ printedOpened
   pub afterVisit43 : heldAfter withNode (visit43 ∷ []) ≡ printedAfterVisit43
   pub progressed : heldAfter withNode (visit43 ∷ visit85 ∷ visit127 ∷ [])
-      ≡ printedWith 9 127 false M.Absent (events (onDay 127) 85 (onDay 85)) (counts (onDay 43) M.Absent B.PR)
+      ≡ printedWith 90 127 false M.Absent (events (onDay 127) 85 (onDay 85)) (counts (onDay 43) M.Absent B.PR)
   -- CR 43, NE 71, CR 99
   pub complete : heldAfter oneTarget (measuring 43 0 ∷ unmeasured 71 ∷ measuring 99 0 ∷ [])
       ≡ oneTargetWith 0 99 false M.Absent (events M.Absent 99 (onDay 99)) (counts (onDay 43) (onDay 43) B.CR)
   -- PR 43, therapy 50, CR 85: the visit behind the therapy moves the nadir, v and the last evaluable visit, and does not count
-  pub afterTherapy : heldAfter oneTarget (measuring 43 60 ∷ therapy 50 ∷ measuring 85 0 ∷ [])
+  pub afterTherapy : heldAfter oneTarget (measuring 43 600 ∷ therapy 50 ∷ measuring 85 0 ∷ [])
       ≡ oneTargetWith 0 85 true M.Absent (events M.Absent 85 (onDay 85)) (counts (onDay 43) M.Absent B.SD)
   -- a therapy behind a visit moves the latest day, and not v
-  pub therapyLast : heldAfter oneTarget (measuring 43 90 ∷ therapy 50 ∷ [])
-      ≡ oneTargetWith 90 50 true M.Absent (events M.Absent 43 (onDay 43)) (counts M.Absent M.Absent B.SD)
+  pub therapyLast : heldAfter oneTarget (measuring 43 900 ∷ therapy 50 ∷ [])
+      ≡ oneTargetWith 900 50 true M.Absent (events M.Absent 43 (onDay 43)) (counts M.Absent M.Absent B.SD)
   -- so does a death
-  pub dead : heldAfter oneTarget (measuring 43 90 ∷ unmeasured 85 ∷ death 100 ∷ [])
-      ≡ oneTargetWith 90 100 false (onDay 100) (events M.Absent 85 (onDay 43)) (counts M.Absent M.Absent B.SD)
-  pub deadAfterTherapy : heldAfter oneTarget (therapy 50 ∷ death 100 ∷ []) ≡ oneTargetWith 100 100 true (onDay 100) noEvents noCounts
+  pub dead : heldAfter oneTarget (measuring 43 900 ∷ unmeasured 85 ∷ death 100 ∷ [])
+      ≡ oneTargetWith 900 100 false (onDay 100) (events M.Absent 85 (onDay 43)) (counts M.Absent M.Absent B.SD)
+  pub deadAfterTherapy : heldAfter oneTarget (therapy 50 ∷ death 100 ∷ []) ≡ oneTargetWith 1000 100 true (onDay 100) noEvents noCounts
   -- PD 43, CR 85: the visit behind the progression moves the nadir and the latest day alone
-  pub afterProgression : heldAfter oneTarget (measuring 43 200 ∷ measuring 85 0 ∷ [])
+  pub afterProgression : heldAfter oneTarget (measuring 43 2000 ∷ measuring 85 0 ∷ [])
       ≡ oneTargetWith 0 85 false M.Absent (events (onDay 43) 1 M.Absent) (counts M.Absent M.Absent B.PD)
   -- baseline missing: a visit is NE, new lesion or not
   pub withoutBaseline : heldAfter missing (visitOn 43 S.NA true [] ∷ [])

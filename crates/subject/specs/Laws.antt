@@ -33,16 +33,16 @@ pub record CountingWithin (c : CountingVisits) : Type 0 where
 pub record EnrolmentWithin (e : Enrolment) : Type 0 where
   pub randomisation : dateExists (e .randomisation) ≡ true
   pub count : e .disease .count ≤ 5
-  pub baselinesum : e .disease .baselinesum ≤ 2500
+  pub baselinesum : e .disease .baselinesum ≤ 25000
 
 pub record FollowUpWithin (f : FollowUp) : Type 0 where
-  pub nadir : f .earlier .nadir ≤ 2500
+  pub nadir : f .earlier .nadir ≤ 25000
   pub latestday : Within (f .latestday .0)
   pub deathday : AbsentOrWithin (f .deathday)
   pub event : EventWithin (f .event)
   pub counting : CountingWithin (f .counting)
 
--- every day from 1 to 40,177, every sum at most 2,500, at most 5 targets, and a randomisation date that 3 does not meet
+-- every day from 1 to 40,177, every sum at most 25,000, at most 5 targets, and a randomisation date that 3 does not meet
 pub record SubjectWithin (s : Subject) : Type 0 where
   pub enrolment : EnrolmentWithin (s .enrolment)
   pub followup : FollowUpWithin (s .followup)

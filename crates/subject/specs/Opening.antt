@@ -16,6 +16,7 @@ use Rattle.records.specs.declared.Record.{Record}
 use Rattle.records.specs.Entries.{Five}
 use Rattle.records.specs.Refusals.{ownNumber}
 use Rattle.laws.specs.Layout.{AreBytes}
+use Rattle.records.specs.Forms.{newForm, newUnit}
 use Rattle.codec.specs.Reading.{refusalsOfBytes, recordOfBytes}
 use Rattle.response_rules.specs.Inputs.{diseaseOf}
 use Rattle.response_rules.specs.Nadir.{earlierOf}
@@ -75,7 +76,7 @@ blankSubject =
 -- the number of each case in document 01; 0 where no refusal meets
 abbrev pub openNumber : OpenAnswer → ℕ
 openNumber O.Done = 0
-openNumber O.NotElevenBytes = 1
+openNumber O.WrongLength = 1
 openNumber O.NoSuchKind = 2
 openNumber (O.Refused own) = ownNumber own
 openNumber O.NotBaseline = 7
@@ -94,17 +95,17 @@ pub record OpensChecked (e : Entry) (marks : List Bool) (sizes : List ℕ) (a : 
 
 -- beside a refusal one fixed blank
 unfoldable pub openedSubject : Record → Subject
-openedSubject r = pick (eqb (refusalOfOpening r) 0) (subjectOfEntry (r .entry) (r .marks) (r .sizes)) blankSubject
+openedSubject r = pick (eqb (refusalOfOpening newUnit r) 0) (subjectOfEntry (r .entry) (r .marks) (r .sizes)) blankSubject
 
 -- the first of 3 to 5 and 7, or the subject; and what the declared type of a record gives of its arrays
 pub record Opens (r : Record) (a : OpenAnswer) (s : Subject) : Type 0 where
-  pub answer : openNumber a ≡ refusalOfOpening r
+  pub answer : openNumber a ≡ refusalOfOpening newUnit r
   pub made : s ≡ openedSubject r
   pub five : Five r
 
 -- from bytes: 1 and 2 before these; the one record that stands beside a refusal of bytes opens no subject
 pub record OpensBytes (s : List ℕ) (a : OpenAnswer) (t : Subject) : Type 0 where
-  pub answer : openNumber a ≡ first (refusalsOfBytes s ++ refusalsOfOpening (recordOfBytes s))
-  pub made : t ≡ openedSubject (recordOfBytes s)
+  pub answer : openNumber a ≡ first (refusalsOfBytes newForm s ++ refusalsOfOpening newUnit (recordOfBytes newForm s))
+  pub made : t ≡ openedSubject (recordOfBytes newForm s)
   -- the type `u8` gives it
   pub octets : AreBytes s

@@ -22,10 +22,10 @@ zeros =
 
 pub record OpenedAtTheEdges : Type 0 where
   -- 1 to 5; 7 not a baseline
-  pub numbers : map openNumber (O.Done ∷ O.NotElevenBytes ∷ O.NoSuchKind ∷ O.Refused N.NotZero ∷ O.NotBaseline ∷ []) ≡ 0 ∷ 1 ∷ 2 ∷ 5 ∷ 7 ∷ []
+  pub numbers : map openNumber (O.Done ∷ O.WrongLength ∷ O.NoSuchKind ∷ O.Refused N.NotZero ∷ O.NotBaseline ∷ []) ≡ 0 ∷ 1 ∷ 2 ∷ 5 ∷ 7 ∷ []
   -- its date is the randomisation date; the latest day starts at 1; whether it has non-target lesions
   pub printed : openedSubject (printedBaseline (ymd 2020 1 1)) ≡ printedOpened
-  pub withoutNontarget : openedSubject (baselineDated (ymd 2020 1 1) true false 1 [] (100 ∷ [])) .enrolment .nontarget ≡ false
+  pub withoutNontarget : openedSubject (baselineDated (ymd 2020 1 1) true false 1 [] (1000 ∷ [])) .enrolment .nontarget ≡ false
   -- a refusal carries its number and nothing else: beside a baseline without a date (3), a visit, a therapy and a death (7) stands the blank
   pub noDate : openedSubject (printedBaseline (ymd 2021 2 29)) ≡ zeros
   pub visit : openedSubject printedVisit43 ≡ zeros

@@ -6,6 +6,7 @@ use lib.Dec.{leb}
 use Rattle.laws.specs.Choice.{both}
 use Rattle.dates.specs.Calendar.{lastDayNumber, dateExists}
 use Rattle.records.specs.Refusals.{mostTargets, largestSize}
+use Rattle.records.specs.Forms.{newUnit}
 use Rattle.outcome_rules.specs.declared.MaybeDay.{MaybeDay}
 use Rattle.outcome_rules.specs.declared.MaybeDay.the-variants as M
 use Rattle.subject.specs.declared.EventDays.{EventDays}
@@ -26,9 +27,9 @@ abbrev pub maybeInRange : MaybeDay → Bool
 maybeInRange M.Absent = true
 maybeInRange (M.On d) = dayInRange (d .0)
 
--- 2,500
+-- 25,000
 abbrev pub largestSum : ℕ
-largestSum = mostTargets * largestSize
+largestSum = mostTargets * largestSize newUnit
 
 abbrev pub eventInRange : EventDays → Bool
 eventInRange e = both (dayInRange (e .lastvisit .0)) (both (maybeInRange (e .progression)) (maybeInRange (e .lastevaluable)))

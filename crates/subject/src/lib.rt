@@ -66,7 +66,7 @@ pub struct Subject {
 pub enum OpenAnswer {
     Done,
     // This and the next from bytes alone.
-    NotElevenBytes,
+    WrongLength,
     NoSuchKind,
     Refused(OwnRefusal),
     NotBaseline,

@@ -26,7 +26,7 @@ pub fn open_number(answer: OpenAnswer) -> u8
 {
     match answer {
         OpenAnswer::Done => 0,
-        OpenAnswer::NotElevenBytes => 1,
+        OpenAnswer::WrongLength => 1,
         OpenAnswer::NoSuchKind => 2,
         OpenAnswer::Refused(own) => records::own_number(own),
         OpenAnswer::NotBaseline => 7,
@@ -166,7 +166,7 @@ pub fn open_bytes(bytes: &[u8]) -> OpenResult
     let sizes = found.sizes;
     match answer {
         ReadAnswer::Done => open_checked(entry, marks, sizes),
-        ReadAnswer::NotElevenBytes => refused(OpenAnswer::NotElevenBytes),
+        ReadAnswer::WrongLength => refused(OpenAnswer::WrongLength),
         ReadAnswer::NoSuchKind => refused(OpenAnswer::NoSuchKind),
         ReadAnswer::Refused(own) => refused(OpenAnswer::Refused(own)),
     }

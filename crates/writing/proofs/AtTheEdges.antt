@@ -8,4 +8,4 @@ use Rattle.writing.specs.Examples.{FirstRefusals}
 
 pub first-refusals : FirstRefusals
 unfolding leapYear daysInMonth dateExists notZeroBeyondCount outsideLimits notZero refusalsOfRead refusalOfWriting
-first-refusals = record { badIntoShort = refl; intoTen = refl; intoEleven = refl; numbers = refl }
+first-refusals = record { badIntoShort = refl; intoTwelve = refl; intoThirteen = refl; numbers = refl }

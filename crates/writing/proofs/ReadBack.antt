@@ -13,6 +13,7 @@ use Rattle.laws.specs.Layout.{total, unpack, Fit, bytes}
 use Rattle.laws.proofs.PackUnpack.{pack-lt, unpack-pack, pack-unpack}
 use Rattle.laws.proofs.LayoutsAppended.{fit-append}
 use Rattle.records.specs.Entries.{dateOf, Five, kindNumber, statusNumber}
+use Rattle.records.specs.Forms.{newForm, newUnit}
 use Rattle.records.specs.Refusals.{mostTargets, notZeroBeyondCount, targetAt, someTarget, notZero, refusalOfRecord}
 use Rattle.records.specs.declared.Record.{Record}
 use Rattle.records.specs.declared.Entry.{Entry}
@@ -38,7 +39,7 @@ status-back NE = refl
 
 -- a number is read as a record, and nothing is out of place
 abbrev ReadAs : Entry → List Bool → List ℕ → ℕ → Type 0
-ReadAs e m s n = rawIn (kindNumber e) n ≡ record { read = record { entry = e; sizes = s; marks = m }; badstatus = false; spare = false }
+ReadAs e m s n = rawIn newForm (kindNumber e) n ≡ record { read = record { entry = e; sizes = s; marks = m }; badstatus = false; spare = false }
 
 module _ (m : List Bool) (s : List ℕ) (lm : length m ≡ 5) (ls : length s ≡ 5) where
   sizes-back : sizesFrom (targetFields m s) ≡ s
@@ -59,7 +60,7 @@ module _ (m : List Bool) (s : List ℕ) (lm : length m ≡ 5) (ls : length s ≡
 
   -- the fields are read as the record
   fields-back : (e : Entry) (n : ℕ) → notZero e m s ≡ false →
-      unpack (layoutOf e) n ≡ fieldsOf e m s → ReadAs e m s n
+      unpack (layoutOf newForm e) n ≡ fieldsOf e m s → ReadAs e m s n
   unfolding rawIn baselineIn visitIn spareIn notZero
   fields-back (Baseline b) n z u =
       ap baselineFrom u ∙ rw (isOne-bit (b .assessed), isOne-bit (b .nontarget), sizes-back, marks-back)
@@ -72,49 +73,49 @@ module _ (m : List Bool) (s : List ℕ) (lm : length m ≡ 5) (ls : length s ≡
       let t = no-targets z in ap (λ (f : List ℕ). spareFrom (Death (dateFrom f)) f) u ∙ rw (t .0, t .1)
 
   kind-back : (e : Entry) (n : ℕ) →
-      unpack (layoutOf e) n ≡ fieldsOf e m s → kindIn n ≡ kindNumber e
+      unpack (layoutOf newForm e) n ≡ fieldsOf e m s → kindIn newForm n ≡ kindNumber e
   kind-back (Baseline b) n u = ap (λ (f : List ℕ). getD f 0 0) u
   kind-back (Visit v) n u = ap (λ (f : List ℕ). getD f 0 0) u
   kind-back (Therapy d) n u = ap (λ (f : List ℕ). getD f 0 0) u
   kind-back (Death d) n u = ap (λ (f : List ℕ). getD f 0 0) u
 
-pub layout-total : (e : Entry) → total (layoutOf e) ≡ total (bytes recordLength)
+pub layout-total : (e : Entry) → total (layoutOf newForm e) ≡ total (bytes recordLength)
 layout-total (Baseline b) = refl
 layout-total (Visit v) = refl
 layout-total (Therapy d) = refl
 layout-total (Death d) = refl
 
-module _ (r : Record) (five : Five r) (fine : refusalOfRecord r ≡ 0) where
-  fields-fit : Fit (layoutOf (r .entry)) (fieldsOf (r .entry) (r .marks) (r .sizes))
+module _ (r : Record) (five : Five r) (fine : refusalOfRecord newUnit r ≡ 0) where
+  fields-fit : Fit (layoutOf newForm (r .entry)) (fieldsOf (r .entry) (r .marks) (r .sizes))
   fields-fit =
-      let p = passes r false false fine in
-      fit-append headLayout (bodyLayout (r .entry)) (headFields (kindNumber (r .entry)) (dateOf (r .entry)))
+      let p = passes newUnit r false false fine in
+      fit-append headLayout (bodyLayout newForm (r .entry)) (headFields (kindNumber (r .entry)) (dateOf (r .entry)))
       (bodyFields (r .entry) (r .marks) (r .sizes)) (head-fits (r .entry) (p .date)) (body-fits (r .entry) (r .marks) (r .sizes) (p .limits) (p .zeros))
 
-  number-back : bytesNumber (bytesOf r) ≡ recordNumber (r .entry) (r .marks) (r .sizes)
+  number-back : bytesNumber newForm (bytesOf newForm r) ≡ recordNumber newForm (r .entry) (r .marks) (r .sizes)
   unfolding bytesNumber bytesOf recordNumber
   number-back =
       pack-unpack (bytes recordLength) _
-      (rw (layout-total (r .entry)) at (pack-lt (layoutOf (r .entry)) (fieldsOf (r .entry) (r .marks) (r .sizes)) fields-fit))
+      (rw (layout-total (r .entry)) at (pack-lt (layoutOf newForm (r .entry)) (fieldsOf (r .entry) (r .marks) (r .sizes)) fields-fit))
 
-  fields-of-number : unpack (layoutOf (r .entry)) (recordNumber (r .entry) (r .marks) (r .sizes)) ≡ fieldsOf (r .entry) (r .marks) (r .sizes)
+  fields-of-number : unpack (layoutOf newForm (r .entry)) (recordNumber newForm (r .entry) (r .marks) (r .sizes)) ≡ fieldsOf (r .entry) (r .marks) (r .sizes)
   unfolding recordNumber
-  fields-of-number = unpack-pack (layoutOf (r .entry)) (fieldsOf (r .entry) (r .marks) (r .sizes)) fields-fit
+  fields-of-number = unpack-pack (layoutOf newForm (r .entry)) (fieldsOf (r .entry) (r .marks) (r .sizes)) fields-fit
 
-  kind-read : kindIn (bytesNumber (bytesOf r)) ≡ kindNumber (r .entry)
+  kind-read : kindIn newForm (bytesNumber newForm (bytesOf newForm r)) ≡ kindNumber (r .entry)
   kind-read = rw number-back (kind-back (r .marks) (r .sizes) (five .marks) (five .sizes) (r .entry) _ fields-of-number)
 
-  raw-read : ReadAs (r .entry) (r .marks) (r .sizes) (bytesNumber (bytesOf r))
+  raw-read : ReadAs (r .entry) (r .marks) (r .sizes) (bytesNumber newForm (bytesOf newForm r))
   raw-read =
       rw number-back
-      (fields-back (r .marks) (r .sizes) (five .marks) (five .sizes) (r .entry) _ (passes r false false fine .zeros) fields-of-number)
+      (fields-back (r .marks) (r .sizes) (five .marks) (five .sizes) (r .entry) _ (passes newUnit r false false fine .zeros) fields-of-number)
 
-  pub no-refusal-back : refusalOfBytes (bytesOf r) ≡ 0
+  pub no-refusal-back : refusalOfBytes newForm (bytesOf newForm r) ≡ 0
   unfolding refusalsOfBytes bytesOf refusalsOfRecordNumber
   no-refusal-back =
       let k = kind-range (r .entry) in
       rw (kind-read, le-leb 1 (kindNumber (r .entry)) (k .0), le-leb (kindNumber (r .entry)) 4 (k .1), raw-read) fine
 
-  pub record-back : recordOfBytes (bytesOf r) ≡ r
+  pub record-back : recordOfBytes newForm (bytesOf newForm r) ≡ r
   unfolding recordOfBytes
   record-back = rw (no-refusal-back, kind-read, raw-read)

@@ -6,6 +6,7 @@ use Prim.Native.Nat.{ℕ, _≤_}
 use lib.ListN.{length, take, drop}
 use borrow.Author.Tests.{le-ltb}
 use Rattle.dates.specs.Calendar.{leapYear, daysInMonth, dateExists}
+use Rattle.records.specs.Forms.{newForm, newUnit}
 use Rattle.records.specs.Refusals.{sizeOutsideLimits, notZeroBeyondCount, withoutDisease, outsideLimits, notZero, refusalsOfRead, refusalOfRecord}
 use Rattle.records.specs.declared.Record.{Record}
 use Rattle.records.proofs.NoOwnRefusal.{none-after-own}
@@ -20,37 +21,37 @@ use Rattle.writing.proofs.ReadBack.{no-refusal-back, record-back}
 use Rattle.writing.proofs.WrittenBack.{bytes-back}
 
 -- a record that no refusal meets, written where there is room
-module _ (r : Record) (out last : List ℕ) (a : WriteAnswer) (fine : refusalOfRecord r ≡ 0) (room : recordLength ≤ length out) (w : Writes r out a last) where
+module _ (r : Record) (out last : List ℕ) (a : WriteAnswer) (fine : refusalOfRecord newUnit r ≡ 0) (room : recordLength ≤ length out) (w : Writes r out a last) where
   not-refused : refusalOfWriting r out ≡ 0
   unfolding refusalOfWriting
-  not-refused = none-after-own r _ .1 (fine, rw (le-ltb (length out) recordLength room))
+  not-refused = none-after-own newUnit r _ .1 (fine, rw (le-ltb (length out) recordLength room))
 
   done : writeNumber a ≡ 0
   done = w .answer ∙ not-refused
 
-  -- the first round trip needs the 11 bytes alone
-  first-bytes : take recordLength last ≡ bytesOf r
+  -- the first round trip needs the 13 bytes alone
+  first-bytes : take recordLength last ≡ bytesOf newForm r
   unfolding bytesOf outputOf
   first-bytes = ap (take recordLength) (w .left) ∙ rw not-refused
 
   -- and the second what stands past them too
-  stored : last ≡ bytesOf r ++ drop recordLength out
+  stored : last ≡ bytesOf newForm r ++ drop recordLength out
   unfolding outputOf
   stored = w .left ∙ rw not-refused
 
-printed-fine : refusalOfRecord printedBaseline ≡ 0
+printed-fine : refusalOfRecord newUnit printedBaseline ≡ 0
 unfolding refusalsOfRead dateExists leapYear daysInMonth outsideLimits notZero withoutDisease sizeOutsideLimits notZeroBeyondCount
 printed-fine = refl
 
-printed-bytes : bytesOf printedBaseline ≡ printedBytes
+printed-bytes : bytesOf newForm printedBaseline ≡ printedBytes
 unfolding bytesOf recordNumber
 printed-bytes = refl
 
-printed-accepted : refusalOfBytes printedBytes ≡ 0
+printed-accepted : refusalOfBytes newForm printedBytes ≡ 0
 unfolding refusalsOfBytes bytesNumber refusalsOfRecordNumber rawIn baselineIn refusalsOfRead dateExists leapYear daysInMonth outsideLimits notZero withoutDisease sizeOutsideLimits notZeroBeyondCount
 printed-accepted = refl
 
-printed-record : recordOfBytes printedBytes ≡ printedBaseline
+printed-record : recordOfBytes newForm printedBytes ≡ printedBaseline
 unfolding recordOfBytes bytesNumber rawIn baselineIn
 printed-record = rw printed-accepted
 
@@ -65,7 +66,7 @@ round-trips =
           );
       writtenBack = λ s out last a x q e room w.
           let accepted = sym (q .answer) ∙ e in
-          let fine : refusalOfRecord (x .found) ≡ 0 = rw (q .found) (found-fine s (q .octets) accepted) in (
+          let fine : refusalOfRecord newUnit (x .found) ≡ 0 = rw (q .found) (found-fine newForm s (q .octets) accepted) in (
             done (x .found) out last a fine room w,
             stored (x .found) out last a fine room w ∙ rw (q .found, bytes-back s (q .octets) accepted),
           );

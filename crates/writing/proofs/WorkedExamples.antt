@@ -10,4 +10,4 @@ use Rattle.writing.specs.Examples.{Outputs}
 
 pub outputs : Outputs
 unfolding leapYear daysInMonth dateExists sizeOutsideLimits notZeroBeyondCount withoutDisease outsideLimits notZero refusalsOfRead recordNumber bytesOf refusalOfWriting outputOf
-outputs = record { intoEleven = refl; intoThirteen = refl; tooShort = refl; badRecord = refl }
+outputs = record { intoThirteen = refl; intoFifteen = refl; tooShort = refl; badRecord = refl }

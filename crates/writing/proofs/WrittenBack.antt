@@ -13,10 +13,11 @@ use Rattle.laws.specs.Layout.{total, pack, unpack, Fit, bytes, AreBytes}
 use Rattle.laws.proofs.PackUnpack.{pack-lt, unpack-pack, pack-unpack}
 use Rattle.laws.proofs.FieldOfBytes.{bytes-fit}
 use Rattle.records.specs.Entries.{statusNumber}
+use Rattle.records.specs.Forms.{newForm}
 use Rattle.records.specs.declared.Record.{Record}
 use Rattle.codec.specs.Bytes.{recordLength, bit, baselineLayout, visitLayout, spareLayout, layoutOf, fieldsOf, recordNumber, bytesOf, bytesNumber}
 use Rattle.codec.specs.Reading.{isOne, statusFrom, baselineIn, visitIn, spareIn, rawIn, kindIn, refusalOfBytes, recordOfBytes}
-use Rattle.codec.proofs.NoRefusalOfBytes.{fine, eleven, no-refusal}
+use Rattle.codec.proofs.NoRefusalOfBytes.{fine, whole, no-refusal}
 use Rattle.writing.proofs.ReadBack.{layout-total}
 
 -- a bit that was read is the bit of its mark
@@ -36,28 +37,28 @@ status-again n h = eqb-true (statusNumber (statusFrom n)) n (all-at statusRight 
 
 -- the fields of what was read are those that it was read from
 abbrev Again : ℕ → Record → Type 0
-Again n r = fieldsOf (r .entry) (r .marks) (r .sizes) ≡ unpack (layoutOf (r .entry)) n
+Again n r = fieldsOf (r .entry) (r .marks) (r .sizes) ≡ unpack (layoutOf newForm (r .entry)) n
 
-baseline-again : (n : ℕ) → kindIn n ≡ 1 → baselineIn n .spare ≡ false → Again n (baselineIn n .read)
+baseline-again : (n : ℕ) → kindIn newForm n ≡ 1 → baselineIn newForm n .spare ≡ false → Again n (baselineIn newForm n .read)
 unfolding baselineIn
 baseline-again n k p =
-    let z : getD (unpack baselineLayout n) 17 0 ≡ 0 = omega (arith, ltb-false 0 (getD (unpack baselineLayout n) 17 0) p) in
+    let z : getD (unpack (baselineLayout newForm) n) 17 0 ≡ 0 = omega (arith, ltb-false 0 (getD (unpack (baselineLayout newForm) n) 17 0) p) in
     simp bit-mod (rw (k, z))
 
-visit-again : (n : ℕ) → kindIn n ≡ 2 → visitIn n .badstatus ≡ false → visitIn n .spare ≡ false → Again n (visitIn n .read)
+visit-again : (n : ℕ) → kindIn newForm n ≡ 2 → visitIn newForm n .badstatus ≡ false → visitIn newForm n .spare ≡ false → Again n (visitIn newForm n .read)
 unfolding visitIn
 visit-again n k u p =
-    let z : getD (unpack visitLayout n) 16 0 ≡ 0 = omega (arith, ltb-false 0 (getD (unpack visitLayout n) 16 0) p) in
-    simp bit-mod (rw (k, z, status-again (getD (unpack visitLayout n) 4 0) (ltb-false 4 (getD (unpack visitLayout n) 4 0) u)))
+    let z : getD (unpack (visitLayout newForm) n) 16 0 ≡ 0 = omega (arith, ltb-false 0 (getD (unpack (visitLayout newForm) n) 16 0) p) in
+    simp bit-mod (rw (k, z, status-again (getD (unpack (visitLayout newForm) n) 4 0) (ltb-false 4 (getD (unpack (visitLayout newForm) n) 4 0) u)))
 
-spare-clear : (n : ℕ) → ltb 0 (getD (unpack spareLayout n) 4 0) ≡ false → getD (unpack spareLayout n) 4 0 ≡ 0
-spare-clear n p = omega (arith, ltb-false 0 (getD (unpack spareLayout n) 4 0) p)
+spare-clear : (n : ℕ) → ltb 0 (getD (unpack (spareLayout newForm) n) 4 0) ≡ false → getD (unpack (spareLayout newForm) n) 4 0 ≡ 0
+spare-clear n p = omega (arith, ltb-false 0 (getD (unpack (spareLayout newForm) n) 4 0) p)
 
-raw-again : (n k : ℕ) → kindIn n ≡ k → 1 ≤ k → k ≤ 4 → rawIn k n .badstatus ≡ false → rawIn k n .spare ≡ false → Again n (rawIn k n .read)
+raw-again : (n k : ℕ) → kindIn newForm n ≡ k → 1 ≤ k → k ≤ 4 → rawIn newForm k n .badstatus ≡ false → rawIn newForm k n .spare ≡ false → Again n (rawIn newForm k n .read)
 unfolding rawIn spareIn
 raw-again n k t l g u p = go (eqb k 1) refl (eqb k 2) refl (eqb k 3) refl
   where
-    go : (a : Bool) → eqb k 1 ≡ a → (b : Bool) → eqb k 2 ≡ b → (c : Bool) → eqb k 3 ≡ c → Again n (rawIn k n .read)
+    go : (a : Bool) → eqb k 1 ≡ a → (b : Bool) → eqb k 2 ≡ b → (c : Bool) → eqb k 3 ≡ c → Again n (rawIn newForm k n .read)
     go true e b q c r =
         let k1 = eqb-true k 1 e in
         rw k1 (baseline-again n (t ∙ k1) (rw k1 at p))
@@ -71,19 +72,19 @@ raw-again n k t l g u p = go (eqb k 1) refl (eqb k 2) refl (eqb k 3) refl
         let k4 : k ≡ 4 = omega (arith, eqb-false k 1 e, eqb-false k 2 q, eqb-false k 3 r) in
         rw k4 (let z = spare-clear n (rw k4 at p) in let y = t ∙ k4 in rw (y, z))
 
-number-again : (n : ℕ) (r : Record) → n < 2 ^ total (bytes recordLength) → Again n r → recordNumber (r .entry) (r .marks) (r .sizes) ≡ n
+number-again : (n : ℕ) (r : Record) → n < 2 ^ total (bytes recordLength) → Again n r → recordNumber newForm (r .entry) (r .marks) (r .sizes) ≡ n
 unfolding recordNumber
 number-again n r h a =
-    ap (λ (f : List ℕ). pack (layoutOf (r .entry)) f) a ∙ pack-unpack (layoutOf (r .entry)) n (rw (layout-total (r .entry)) h)
+    ap (λ (f : List ℕ). pack (layoutOf newForm (r .entry)) f) a ∙ pack-unpack (layoutOf newForm (r .entry)) n (rw (layout-total (r .entry)) h)
 
-module _ (s : List ℕ) (b : AreBytes s) (e : refusalOfBytes s ≡ 0) where
+module _ (s : List ℕ) (b : AreBytes s) (e : refusalOfBytes newForm s ≡ 0) where
   fit : Fit (bytes recordLength) s
-  fit = rw (eleven s b e) at (bytes-fit s b)
+  fit = rw (whole newForm s b e) at (bytes-fit s b)
 
-  pub bytes-back : bytesOf (recordOfBytes s) ≡ s
+  pub bytes-back : bytesOf newForm (recordOfBytes newForm s) ≡ s
   unfolding bytesOf recordOfBytes bytesNumber
   bytes-back =
-      let n = bytesNumber s in
-      let f = fine n (no-refusal s b e) in
-      let a = raw-again n (kindIn n) refl (f .low) (f .high) (f .passed .lawful) (f .passed .clear) in
-      rw (e, number-again n (rawIn (kindIn n) n .read) (pack-lt (bytes recordLength) s fit) a) (unpack-pack (bytes recordLength) s fit)
+      let n = bytesNumber newForm s in
+      let f = fine newForm n (no-refusal newForm s b e) in
+      let a = raw-again n (kindIn newForm n) refl (f .low) (f .high) (f .passed .lawful) (f .passed .clear) in
+      rw (e, number-again n (rawIn newForm (kindIn newForm n) n .read) (pack-lt (bytes recordLength) s fit) a) (unpack-pack (bytes recordLength) s fit)

@@ -1,14 +1,15 @@
-// A record that no refusal meets to bytes, in two parts: kind and date, then the rest.
+// A record that no refusal meets to bytes, in three parts: kind and date, then the rest in halves, since no integer holds its 80 bits.
 use records::Entry;
 use records::Status;
 ghost use mathlib.Core.Path.{_≡_};
 ghost use mathlib.Core.Bool.{true, false};
 ghost use mathlib.Core.List.{_++_};
-ghost use Prim.Native.Nat.{ℕ, _+_, _*_, _^_, _<_, _≤_};
-ghost use lib.ListN.{length, getD, drop};
+ghost use Prim.Native.Nat.{ℕ, _+_, _*_, _/_, _%_, _^_, _<_, _≤_};
+ghost use lib.ListN.{length, getD, take, drop};
 ghost use Rattle.laws.specs.Layout.{pack, unpack, bytes};
 ghost use Rattle.dates.specs.Calendar.{dateExists};
 ghost use Rattle.records.specs.Entries.{dateOf, kindNumber, statusNumber};
+ghost use Rattle.records.specs.Forms.{newForm, newUnit};
 ghost use Rattle.records.specs.Refusals.{outsideLimits, notZero};
 ghost use Rattle.codec.specs.Bytes.{recordLength, headLayout, targetsLayout, bodyLayout, headFields, targetFields, bodyFields, bit};
 
@@ -19,23 +20,32 @@ const YEAR: u32 = 1 << 9;
 
 const MONTH: u32 = 1 << 5;
 
-const ASSESSED: u64 = 1 << 63;
+const ASSESSED: u64 = 1 << 39;
 
-const NONTARGET: u64 = 1 << 62;
+const NONTARGET: u64 = 1 << 38;
 
-const COUNT: u64 = 1 << 59;
+const COUNT: u64 = 1 << 35;
 
-const BASELINE_TARGETS: u64 = 1 << 4;
+const BASELINE_FIRST: u64 = 1 << 33;
 
-const STATUS: u64 = 1 << 61;
+const BASELINE_LAST: u64 = 1 << 5;
 
-const NEW_LESION: u64 = 1 << 60;
+const STATUS: u64 = 1 << 37;
 
-const VISIT_TARGETS: u64 = 1 << 5;
+const NEW_LESION: u64 = 1 << 36;
 
-const MARK: u64 = 1 << 10;
+const VISIT_FIRST: u64 = 1 << 34;
 
-const TARGET: u64 = 1 << 11;
+const VISIT_LAST: u64 = 1 << 6;
+
+const MARK: u64 = 1 << 13;
+
+const TARGET: u64 = 1 << 14;
+
+// The first three targets stand above this in the high half and below it in the low one.
+const BASELINE_CUT: u64 = 1 << 7;
+
+const VISIT_CUT: u64 = 1 << 6;
 
 fn bit_of(b: bool) -> u64
     ensures { λ r. ⌜ (r ≡ bit b) × (r ≤ 1) ⌝ }
@@ -77,66 +87,90 @@ pub(crate) fn head_number(entry: Entry) -> u32
 }
 
 fn target_number(mark: bool, size: u16) -> u64
-    requires { ⌜ size < 1024 ⌝ }
-    ensures { λ r. ⌜ (r ≡ bit mark * 1024 + size) × (r < 2048) ⌝ }
+    requires { ⌜ size < 8192 ⌝ }
+    ensures { λ r. ⌜ (r ≡ bit mark * 8192 + size) × (r < 16384) ⌝ }
 {
     bit_of(mark) * MARK + size as u64
 }
 
-// The five targets, 55 bits.
-fn targets_number(marks: [bool; 5], sizes: [u16; 5]) -> u64
-    requires { ⌜ ((k : ℕ) → k < 5 → getD sizes k 0 < 1024) ⌝ }
-    ensures { λ r. ⌜ (r ≡ pack targetsLayout (targetFields marks sizes)) × (r < 2 ^ 55) ⌝ }
+// The first three targets, 42 bits.
+fn first_targets(marks: [bool; 5], sizes: [u16; 5]) -> u64
+    requires { ⌜ ((k : ℕ) → k < 5 → getD sizes k 0 < 8192) ⌝ }
+    ensures { λ r. ⌜ (r ≡ pack (take 6 (targetsLayout newForm)) (take 6 (targetFields marks sizes))) × (r < 2 ^ 42) ⌝ }
 {
     let a = target_number(marks[0], sizes[0]);
     let b = target_number(marks[1], sizes[1]);
     let c = target_number(marks[2], sizes[2]);
-    let d = target_number(marks[3], sizes[3]);
-    let e = target_number(marks[4], sizes[4]);
-    (((a * TARGET + b) * TARGET + c) * TARGET + d) * TARGET + e
+    (a * TARGET + b) * TARGET + c
 }
 
-// What follows kind and date, 64 bits.
-pub(crate) fn body_number(entry: Entry, marks: [bool; 5], sizes: [u16; 5]) -> u64
-    requires { ⌜ (outsideLimits entry marks sizes ≡ false) × (notZero entry marks sizes ≡ false) ⌝ }
-    ensures { λ r. ⌜ r ≡ pack (bodyLayout entry) (bodyFields entry marks sizes) ⌝ }
+// The last two targets, 28 bits.
+fn last_targets(marks: [bool; 5], sizes: [u16; 5]) -> u64
+    requires { ⌜ ((k : ℕ) → k < 5 → getD sizes k 0 < 8192) ⌝ }
+    ensures { λ r. ⌜ (r ≡ pack (drop 6 (targetsLayout newForm)) (drop 6 (targetFields marks sizes))) × (r < 2 ^ 28) ⌝ }
 {
+    let d = target_number(marks[3], sizes[3]);
+    let e = target_number(marks[4], sizes[4]);
+    d * TARGET + e
+}
+
+// The high half of what follows kind and date, 40 bits.
+pub(crate) fn high_number(entry: Entry, marks: [bool; 5], sizes: [u16; 5]) -> u64
+    requires { ⌜ (outsideLimits newUnit entry marks sizes ≡ false) × (notZero entry marks sizes ≡ false) ⌝ }
+    ensures { λ r. ⌜ r ≡ pack (bodyLayout newForm entry) (bodyFields entry marks sizes) / 2 ^ 40 ⌝ }
+{
+    let first = first_targets(marks, sizes);
     match entry {
         Entry::Baseline(b) => {
-            let targets = targets_number(marks, sizes);
             let assessed = bit_of(b.assessed);
             let nontarget = bit_of(b.nontarget);
             assessed * ASSESSED
                 + nontarget * NONTARGET
                 + b.count as u64 * COUNT
-                + targets * BASELINE_TARGETS
+                + first / BASELINE_CUT
         }
         Entry::Visit(v) => {
-            let targets = targets_number(marks, sizes);
             let status = v.status;
             let number = status_number(status);
             let newlesion = bit_of(v.newlesion);
-            number * STATUS + newlesion * NEW_LESION + targets * VISIT_TARGETS
+            number * STATUS + newlesion * NEW_LESION + first / VISIT_CUT
         }
         Entry::Therapy(_) => 0,
         Entry::Death(_) => 0,
     }
 }
 
-// Both parts to the front of the output.
-pub(crate) fn store(head: u32, body: u64, out: &mut [u8])
+// The low half of what follows kind and date, 40 bits.
+pub(crate) fn low_number(entry: Entry, marks: [bool; 5], sizes: [u16; 5]) -> u64
+    requires { ⌜ (outsideLimits newUnit entry marks sizes ≡ false) × (notZero entry marks sizes ≡ false) ⌝ }
+    ensures { λ r. ⌜ r ≡ pack (bodyLayout newForm entry) (bodyFields entry marks sizes) % 2 ^ 40 ⌝ }
+{
+    let first = first_targets(marks, sizes);
+    let last = last_targets(marks, sizes);
+    match entry {
+        Entry::Baseline(_) => first % BASELINE_CUT * BASELINE_FIRST + last * BASELINE_LAST,
+        Entry::Visit(_) => first % VISIT_CUT * VISIT_FIRST + last * VISIT_LAST,
+        Entry::Therapy(_) => 0,
+        Entry::Death(_) => 0,
+    }
+}
+
+// The three parts to the front of the output.
+pub(crate) fn store(head: u32, high: u64, low: u64, out: &mut [u8])
     requires { ⌜ recordLength ≤ length (now out) ⌝ }
-    ensures { λ r. ⌜ now (out .exit) ≡ (unpack (bytes 3) head ++ unpack (bytes 8) body) ++ drop recordLength (now (out .entry)) ⌝ }
+    ensures { λ r. ⌜ now (out .exit) ≡ (unpack (bytes 3) head ++ (unpack (bytes 5) high ++ unpack (bytes 5) low)) ++ drop recordLength (now (out .entry)) ⌝ }
 {
     out[0] = ((head >> 16) % 256) as u8;
     out[1] = ((head >> 8) % 256) as u8;
     out[2] = (head % 256) as u8;
-    out[3] = ((body >> 56) % 256) as u8;
-    out[4] = ((body >> 48) % 256) as u8;
-    out[5] = ((body >> 40) % 256) as u8;
-    out[6] = ((body >> 32) % 256) as u8;
-    out[7] = ((body >> 24) % 256) as u8;
-    out[8] = ((body >> 16) % 256) as u8;
-    out[9] = ((body >> 8) % 256) as u8;
-    out[10] = (body % 256) as u8;
+    out[3] = ((high >> 32) % 256) as u8;
+    out[4] = ((high >> 24) % 256) as u8;
+    out[5] = ((high >> 16) % 256) as u8;
+    out[6] = ((high >> 8) % 256) as u8;
+    out[7] = (high % 256) as u8;
+    out[8] = ((low >> 32) % 256) as u8;
+    out[9] = ((low >> 24) % 256) as u8;
+    out[10] = ((low >> 16) % 256) as u8;
+    out[11] = ((low >> 8) % 256) as u8;
+    out[12] = (low % 256) as u8;
 }

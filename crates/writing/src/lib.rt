@@ -1,4 +1,5 @@
-// A record as 11 bytes, written into any lent output (document 01, "Where a call stops", 3 to 6). That reading and writing undo each other is proved here.
+// A record as 13 bytes, written into any lent output (document 01, "Where a call stops", 3 to 6, and document 02, request 1). That reading and writing undo
+// each other is proved here.
 use codec::RECORD_LENGTH;
 use records::CheckAnswer;
 use records::OwnRefusal;
@@ -26,8 +27,9 @@ pub fn write(r: Record, out: &mut [u8]) -> WriteAnswer
             let marks = r.marks;
             let sizes = r.sizes;
             let head = encode::head_number(entry);
-            let body = encode::body_number(entry, marks, sizes);
-            encode::store(head, body, out);
+            let high = encode::high_number(entry, marks, sizes);
+            let low = encode::low_number(entry, marks, sizes);
+            encode::store(head, high, low, out);
             WriteAnswer::Done
         }
     }

@@ -11,10 +11,11 @@ use Rattle.codec.proofs.PartsJoined.{fair-length}
 use Rattle.file.proofs.TurnsOfLoop.{bad, first-refused, Standing, first-standing, turn-refused, turn, ended}
 use Rattle.file.proofs.judge_file.Statement.{statement}
 use Rattle.file.proofs.judge_file.Tie as tie
+use Rattle.records.specs.Forms.{newForm}
 
 abbrev Inv-loop : tie.InvT-loop
 Inv-loop bytes unopened count subject₀ k₀ subject k =
-    (1 ≤ k) × (k ≤ count) × (count ≡ length bytes / recordLength) × (length bytes ≤ mostBytes) × Standing bytes subject k
+    (1 ≤ k) × (k ≤ count) × (count ≡ length bytes / recordLength) × (length bytes ≤ mostBytes newForm) × Standing bytes subject k
 
 abbrev μ-loop : tie.MeasureT-loop
 μ-loop bytes unopened count subject₀ k₀ subject k = count - k
@@ -30,12 +31,12 @@ judge-file-spec =
     (λ c. bad _ _ (sym (c .before .before .bad-length .ensures) ∙ c .before .if1 .taken) (c .refused .ensures))
     (λ c. search needs)
     (λ c. search needs)
-    (λ c. let h = fair-length (length (c .before .before .before .args .bytes .now)) (sym (c .before .bad-length .ensures) ∙ c .if1 .left) in omega arith)
+    (λ c. let h = fair-length newForm (length (c .before .before .before .args .bytes .now)) (sym (c .before .bad-length .ensures) ∙ c .if1 .left) in omega arith)
     (λ c κs. search needs)
     (λ c κs. search needs)
     (λ c κs. search needs)
     (λ c. first-refused _ (sym (c .before .before .before .before .before .before .bad-length .ensures) ∙ c .before .before .before .before .before .if1 .left) _ _ _ (c .before .before .before .open-bytes .ensures) (c .before .before .open-number .ensures) _ (c .before .if2 .taken) (c .refused2 .ensures))
-    (λ c. let h = fair-length (length (c .before .before .before .before .before .before .before .before .args .bytes .now)) (sym (c .before .before .before .before .before .before .bad-length .ensures) ∙ c .before .before .before .before .before .if1 .left) in (omega arith, omega arith, refl, h .2, first-standing _ (sym (c .before .before .before .before .before .before .bad-length .ensures) ∙ c .before .before .before .before .before .if1 .left) _ _ _ (c .before .before .before .open-bytes .ensures) (c .before .before .open-number .ensures) (c .before .if2 .left)))
+    (λ c. let h = fair-length newForm (length (c .before .before .before .before .before .before .before .before .args .bytes .now)) (sym (c .before .before .before .before .before .before .bad-length .ensures) ∙ c .before .before .before .before .before .if1 .left) in (omega arith, omega arith, refl, h .2, first-standing _ (sym (c .before .before .before .before .before .before .bad-length .ensures) ∙ c .before .before .before .before .before .if1 .left) _ _ _ (c .before .before .before .open-bytes .ensures) (c .before .before .open-number .ensures) (c .before .if2 .left)))
     (λ c. omega arith)
     (λ c. omega arith)
     (λ c. search needs)

@@ -11,13 +11,14 @@ use Rattle.codec.specs.Parts.{mostBytes}
 use Rattle.input.proofs.ChunksStored.{rest-kept, none-brought}
 use Rattle.input.proofs.read_into.Statement.{statement}
 use Rattle.input.proofs.read_into.Tie as tie
+use Rattle.records.specs.Forms.{newForm}
 
 abbrev Inv-loop : tie.InvT-loop
 Inv-loop bytes₀ chunk₀ count₀ bytes chunk count =
-    (length chunk ≡ 4096) × (length bytes ≡ 65536) × (count ≤ mostBytes + 4096) × (drop count bytes ≡ drop count bytes₀)
+    (length chunk ≡ 4096) × (length bytes ≡ 65536) × (count ≤ mostBytes newForm + 4096) × (drop count bytes ≡ drop count bytes₀)
 
 abbrev μ-loop : tie.MeasureT-loop
-μ-loop bytes₀ chunk₀ count₀ bytes chunk count = mostBytes + 1 - count
+μ-loop bytes₀ chunk₀ count₀ bytes chunk count = mostBytes newForm + 1 - count
 
 pub read-into-spec : {M : Type 1} → statement M
 read-into-spec =

@@ -11,10 +11,11 @@ use Rattle.codec.proofs.PartsJoined.{fair-length}
 use Rattle.listing.proofs.TurnsOfLoop.{bad-into, first-into, turn-into, Printing, first-printing, next-writable, turn-printing, ended-into}
 use Rattle.listing.proofs.judge_into.Statement.{statement}
 use Rattle.listing.proofs.judge_into.Tie as tie
+use Rattle.records.specs.Forms.{newForm}
 
 abbrev Inv-loop : tie.InvT-loop
 Inv-loop bytes page₀ unopened count subject₀ at₀ k₀ page subject at k =
-    (1 ≤ k) × (k ≤ count) × (count ≡ length bytes / recordLength) × (length bytes ≤ mostBytes) × (length page ≡ length page₀) × (at ≤ 24 * (k - 1)) ×
+    (1 ≤ k) × (k ≤ count) × (count ≡ length bytes / recordLength) × (length bytes ≤ mostBytes newForm) × (length page ≡ length page₀) × (at ≤ 24 * (k - 1)) ×
     Printing bytes page₀ page subject at k
 
 abbrev μ-loop : tie.MeasureT-loop
@@ -31,12 +32,12 @@ judge-into-spec =
     (λ c. bad-into _ _ _ _ _ (sym (c .before .before .bad-length .ensures) ∙ c .before .if1 .taken) refl (c .stopped .ensures))
     (λ c. search needs)
     (λ c. search needs)
-    (λ c. let h = fair-length (length (c .before .before .before .before .args .bytes .now)) (sym (c .before .bad-length .ensures) ∙ c .if1 .left) in omega arith)
+    (λ c. let h = fair-length newForm (length (c .before .before .before .before .args .bytes .now)) (sym (c .before .bad-length .ensures) ∙ c .if1 .left) in omega arith)
     (λ c κs. search needs)
     (λ c κs. search needs)
     (λ c κs. search needs)
     (λ c. first-into _ _ _ _ _ (sym (c .before .before .before .before .before .before .bad-length .ensures) ∙ c .before .before .before .before .before .if1 .left) refl _ _ _ (c .before .before .before .open-bytes .ensures) (c .before .before .open-number .ensures) (c .before .if2 .taken) (c .stopped2 .ensures))
-    (λ c. let h = fair-length (length (c .before .before .before .before .before .before .before .before .before .args .bytes .now)) (sym (c .before .before .before .before .before .before .bad-length .ensures) ∙ c .before .before .before .before .before .if1 .left) in (omega arith, omega arith, refl, h .2, refl, omega arith, first-printing _ _ (sym (c .before .before .before .before .before .before .bad-length .ensures) ∙ c .before .before .before .before .before .if1 .left) _ _ _ (c .before .before .before .open-bytes .ensures) (c .before .before .open-number .ensures) (c .before .if2 .left)))
+    (λ c. let h = fair-length newForm (length (c .before .before .before .before .before .before .before .before .before .args .bytes .now)) (sym (c .before .before .before .before .before .before .bad-length .ensures) ∙ c .before .before .before .before .before .if1 .left) in (omega arith, omega arith, refl, h .2, refl, omega arith, first-printing _ _ (sym (c .before .before .before .before .before .before .bad-length .ensures) ∙ c .before .before .before .before .before .if1 .left) _ _ _ (c .before .before .before .open-bytes .ensures) (c .before .before .open-number .ensures) (c .before .if2 .left)))
     (λ c. omega arith)
     (λ c. omega arith)
     (λ c. search needs)

@@ -9,6 +9,7 @@ use lib.ListN.{getD}
 use borrow.Author.Tests.{le-leb, lt-leb}
 use Rattle.laws.specs.Choice.{either, all}
 use Rattle.laws.proofs.Tests.{both-with-true, both-with-false}
+use Rattle.records.specs.Forms.{newUnit}
 use Rattle.response_rules.specs.TargetAnswer.{disappeared, allDisappeared}
 use borrow.Author.Needs.{needs}
 use Rattle.response.proofs.targets.all_disappeared.Statement.{statement}
@@ -23,7 +24,7 @@ module _ (count i : ℕ) (g b : Bool) where
 
 -- what the definition says of one target
 abbrev passes : tie.Start → ℕ → Bool
-passes s i = either (leb (s .args .count) i) (disappeared (getD (s .args .t2) i false) (getD (s .args .t3) i 0))
+passes s i = either (leb (s .args .count) i) (disappeared newUnit (getD (s .args .t2) i false) (getD (s .args .t3) i 0))
 
 first : (c : tie.Joined1) → passes (c .before) 0 ≡ c .if1 .if2
 first c = ⊎-elim (λ w. search beyond) (λ w. search within) (c .if1 .came)

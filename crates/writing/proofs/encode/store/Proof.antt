@@ -1,4 +1,4 @@
--- `writing::encode::store` meets its contract: eleven stores from the front are the list of the eleven bytes.
+-- `writing::encode::store` meets its contract: thirteen stores from the front are the list of the thirteen bytes.
 -- Assumes nothing.
 use native.Mathlib.Omega.{arith}
 use native.Mathlib.Nat.{div-one}
@@ -36,5 +36,9 @@ store-spec =
     (λ c. simp length-set (omega arith))
     (λ c. search needs)
     (λ c. simp length-set (omega arith))
+    (λ c. search needs)
+    (λ c. simp length-set (omega arith))
+    (λ c. search needs)
+    (λ c. simp length-set (omega arith))
     (λ c. simp length-set)
-    (λ c. simp div-one (simp div-one at (sets-eq (unpack (bytes 3) (c .args .head) ++ unpack (bytes 8) (c .args .body)) (c .args .out .now) 0 (omega arith)))))
+    (λ c. simp div-one (simp div-one at (sets-eq (unpack (bytes 3) (c .args .head) ++ (unpack (bytes 5) (c .args .high) ++ unpack (bytes 5) (c .args .low))) (c .args .out .now) 0 (omega arith)))))
