@@ -93,7 +93,7 @@ module _ (randomisation : Date) (bytes : List ℕ) (v : VisitFields) (counted : 
   held = ap (λ (n : ℕ). record { 0 = n }) (dq ∙ ap (λ (c : Counted). c .day) cq)
 
   on-the-day : refusalOfBytes newForm bytes ≡ 0 → day ≡ heldDay randomisation (dateOf (recordOfBytes newForm bytes .entry))
-  on-the-day e = held ∙ ap (heldDay randomisation) (date-read ∙ sym (found-date bytes (w .octets) e))
+  on-the-day e = held ∙ ap (heldDay randomisation) (date-read ∙ sym (found-date bytes e))
 
   pub visit-dated : (own : AddAnswer) → v .isvisit ≡ true →
       addNumber own ≡ first (refusalsOfFields newUnit (eqb (studyDayValues counted .refusal) 3) (E.Visit (v .entry)) (v .measured) (v .sizes) (v .badstatus) (v .spare)) →

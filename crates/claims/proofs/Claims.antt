@@ -15,6 +15,10 @@ use Rattle.outcome.proofs.CallsInRange.{calls-in-range}
 use Rattle.file.proofs.FileAsCalls.{file-as-calls}
 use Rattle.listing_text.proofs.AtTheEdges.{lines-at-the-edges}
 use Rattle.listing_text.proofs.ListingLength.{lengths}
+use Rattle.records.proofs.Tenfold.{tenfold-refusals}
+use Rattle.response_rules.proofs.Tenfold.{tenfold-answers}
+use Rattle.outcome_rules.proofs.Tenfold.{tenfold-lists}
+use Rattle.converter.proofs.OldFilesKept.{old-files-kept}
 use Rattle.claims.specs.Claims.{Claims}
 
 pub claims : Claims
@@ -40,4 +44,8 @@ claims =
       range = range-laws;
       inRange = calls-in-range;
       examples = examples-hold .0;
+      tenfoldRefusals = tenfold-refusals;
+      tenfoldAnswers = tenfold-answers;
+      tenfoldLists = tenfold-lists;
+      oldFiles = old-files-kept;
     }

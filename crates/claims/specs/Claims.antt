@@ -1,4 +1,4 @@
--- What Weprane claims, in the order of document 01: one record whose fields are the published theorems. What a call does is claimed by its own `ensures`;
+-- What Weprane claims, in the order of document 01, then of document 02: one record whose fields are the published theorems. What a call does is claimed by its own `ensures`;
 -- a theorem that is not here is not claimed. Proved in proofs/Claims.antt.
 -- Assumes nothing.
 use Rattle.laws.specs.Refusals.{FirstLaws}
@@ -16,6 +16,10 @@ use Rattle.outcome.specs.Laws.{CallsInRange}
 use Rattle.file.specs.FileAsCalls.{FileAsCalls}
 use Rattle.listing_text.specs.Examples.{LinesAtTheEdges}
 use Rattle.listing_text.specs.Laws.{Lengths}
+use Rattle.records.specs.Tenfold.{TenfoldRefusals}
+use Rattle.response_rules.specs.Tenfold.{TenfoldAnswers}
+use Rattle.outcome_rules.specs.Tenfold.{TenfoldLists}
+use Rattle.converter.specs.Laws.{OldFilesKept}
 
 pub record Claims : Type 1 where
   -- "Dates and records": day numbers; what is written is read, and what is read is written, byte for byte
@@ -46,3 +50,9 @@ pub record Claims : Type 1 where
   pub inRange : CallsInRange
   -- "Examples at the edges": the starred ones, as one list
   pub examples : Hold starred
+  -- document 02, request 1: sizes times ten, by ten times as many units a millimetre, are refused and answered alike, record by record, visit by visit and
+  -- list by list; and what converting keeps of an old file
+  pub tenfoldRefusals : TenfoldRefusals
+  pub tenfoldAnswers : TenfoldAnswers
+  pub tenfoldLists : TenfoldLists
+  pub oldFiles : OldFilesKept

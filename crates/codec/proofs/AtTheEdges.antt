@@ -55,6 +55,7 @@ first-refusals =
       lastOfTherapy = refl;
       firstOfDeath = refl;
       lastOfDeath = refl;
+      bytes = refl;
       numbers = refl;
     }
 
@@ -75,7 +76,7 @@ old-records =
 
 pub fields-by-their-bits : FieldsByTheirBits
 unfolding bytesNumber
-fields-by-their-bits = record { head = refl; targets = refl; measured = refl; visit = refl }
+fields-by-their-bits = record { head = refl; targets = refl; measured = refl; visit = refl; oldVisit = refl }
 
 pub fields-of-visits : FieldsOfVisits
 unfolding bytesNumber statusFrom visitFieldsIn visitFieldsOf

@@ -31,5 +31,6 @@ old-lengths =
       thirteenBytes = refl;
       mostRecords = refl;
       mostAndARecord = refl;
+      noRecord = refl;
       twoRecords = refl;
     }

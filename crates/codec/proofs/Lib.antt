@@ -2,6 +2,7 @@ pub mod AtTheEdges
 pub mod AtTheEdgesOfParts
 pub mod PartsJoined
 pub mod FieldOfThreeBytes
+pub mod SomeFieldSet
 pub mod Returns
 pub mod FiveMarksAndSizes
 pub mod NoRefusalOfBytes

@@ -12,7 +12,6 @@ use Rattle.laws.specs.Choice.{pick}
 use Rattle.laws.specs.Refusals.{Refusal, first, Each, Numbered}
 use Rattle.laws.proofs.Tests.{both-true}
 use Rattle.laws.proofs.FirstRefusal.{none-meets, first-append}
-use Rattle.laws.specs.Layout.{AreBytes}
 use Rattle.records.proofs.NoOwnRefusal.{Passes, each-own, passes, no-refusal as no-refusal-of}
 use Rattle.records.specs.Refusals.{refusalOfRecord}
 use Rattle.records.specs.Forms.{Form}
@@ -50,7 +49,7 @@ module _ (form : Form) where
       let k = both-true (leb 1 (kindIn form n)) (leb (kindIn form n) 4) (not-false _ known) in
       record { low = leb-true 1 (kindIn form n) (k .0); high = leb-true (kindIn form n) 4 (k .1); passed = passes (form .unit) (w .read) (w .badstatus) (w .spare) (rw known at e) }
 
-  module _ (s : List ℕ) (b : AreBytes s) (e : refusalOfBytes form s ≡ 0) where
+  module _ (s : List ℕ) (e : refusalOfBytes form s ≡ 0) where
     pub whole : length s ≡ (form .recordLength)
     unfolding refusalsOfBytes
     whole = eqb-true (length s) (form .recordLength) (not-false _ (none-meets (refusalsOfBytes form s) (bytes-numbered s) .0 e .0))

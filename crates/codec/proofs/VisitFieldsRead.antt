@@ -10,7 +10,6 @@ use borrow.Author.Tests.{eq-eqb, eqb-true}
 use Rattle.laws.specs.Choice.{pick}
 use Rattle.laws.specs.Refusals.{first}
 use Rattle.laws.proofs.Tests.{never}
-use Rattle.laws.specs.Layout.{AreBytes}
 use Rattle.dates.specs.declared.Date.{Date}
 use Rattle.records.specs.declared.Entry.the-variants as E
 use Rattle.records.specs.Entries.{dateOf}
@@ -34,10 +33,10 @@ raw-date kind n =
     (either-date (eqb kind 2) (visitIn newForm n) _ (visitFieldsIn newForm n .entry .date) refl
     (either-date (eqb kind 3) (spareIn newForm (E.Therapy (dateIn newForm n)) n) (spareIn newForm (E.Death (dateIn newForm n)) n) (visitFieldsIn newForm n .entry .date) refl refl))
 
-module _ (s : List ℕ) (b : AreBytes s) (e : refusalOfBytes newForm s ≡ 0) where
+module _ (s : List ℕ) (e : refusalOfBytes newForm s ≡ 0) where
   fields-there : visitFieldsOf s ≡ visitFieldsIn newForm (bytesNumber newForm s)
   unfolding visitFieldsOf
-  fields-there = rw (eq-eqb (length s) recordLength (whole newForm s b e))
+  fields-there = rw (eq-eqb (length s) recordLength (whole newForm s e))
 
   pub found-date : dateOf (recordOfBytes newForm s .entry) ≡ visitFieldsOf s .entry .date
   unfolding recordOfBytes

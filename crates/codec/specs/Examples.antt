@@ -13,7 +13,7 @@ use Rattle.records.specs.declared.Record.{Record}
 use Rattle.records.specs.declared.Status.{Status}
 use Rattle.records.specs.declared.Status.the-variants as S
 use Rattle.records.specs.Forms.{oldForm, newForm}
-use Rattle.codec.specs.Bytes.{bytesOf}
+use Rattle.codec.specs.Bytes.{recordLength, bytesOf}
 use Rattle.codec.specs.Fields.{fieldAt, targetsAt}
 use Rattle.codec.specs.Reading.{readNumber, refusalOfBytes, recordOfBytes, visitFieldsOf}
 use Rattle.codec.specs.declared.ReadAnswer.the-variants as A
@@ -125,6 +125,7 @@ pub record FirstRefusals : Type 0 where
   pub lastOfTherapy : refusalOfBytes newForm (0x6F ∷ 0xC8 ∷ 0x54 ∷ 0 ∷ 0 ∷ 0 ∷ 0 ∷ 0 ∷ 0 ∷ 0 ∷ 0 ∷ 0 ∷ 0x01 ∷ []) ≡ 5
   pub firstOfDeath : refusalOfBytes newForm (thirteen (0x8F ∷ 0xC8 ∷ 0x54 ∷ 0x80 ∷ [])) ≡ 5
   pub lastOfDeath : refusalOfBytes newForm (0x8F ∷ 0xC8 ∷ 0x54 ∷ 0 ∷ 0 ∷ 0 ∷ 0 ∷ 0 ∷ 0 ∷ 0 ∷ 0 ∷ 0 ∷ 0x01 ∷ []) ≡ 5
+  pub bytes : recordLength ≡ 13
   -- 1 not 13 bytes; 2 kind not 1 to 4; 3 to 5
   pub numbers : map readNumber (A.Done ∷ A.WrongLength ∷ A.NoSuchKind ∷ A.Refused O.NotZero ∷ []) ≡ 0 ∷ 1 ∷ 2 ∷ 5 ∷ []
 
@@ -163,6 +164,8 @@ pub record FieldsByTheirBits : Type 0 where
   pub targets : targetsAt newForm fiveTargetsBytes 29 ≡ 1 ∷ 211 ∷ 0 ∷ 322 ∷ 1 ∷ 433 ∷ 0 ∷ 544 ∷ 1 ∷ 655 ∷ []
   pub measured : targetsAt newForm fourMeasuredBytes 28 ≡ 1 ∷ 111 ∷ 1 ∷ 222 ∷ 0 ∷ 0 ∷ 1 ∷ 444 ∷ 1 ∷ 5000 ∷ []
   pub visit : targetsAt newForm printedVisitBytes 28 ≡ 1 ∷ 240 ∷ 1 ∷ 120 ∷ 0 ∷ 0 ∷ 0 ∷ 0 ∷ 0 ∷ 0 ∷ []
+  -- the old form, from bit 28 on
+  pub oldVisit : targetsAt oldForm oldVisitBytes 28 ≡ 1 ∷ 11 ∷ 1 ∷ 22 ∷ 0 ∷ 0 ∷ 1 ∷ 44 ∷ 1 ∷ 500 ∷ []
 
 -- the fields of a visit, with or without a new lesion, a status that is none and a spare bit that is set
 abbrev pub fieldsOf : Bool → Date → Status → Bool → List Bool → List ℕ → Bool → Bool → VisitFields

@@ -41,4 +41,5 @@ pub record OldLengths : Type 0 where
   pub thirteenBytes : badLength oldForm 13 ≡ true
   pub mostRecords : badLength oldForm 44000 ≡ false
   pub mostAndARecord : badLength oldForm 44011 ≡ true
-  pub twoRecords : partsOf oldForm (filled 7 22 (1 ∷ [])) ≡ filled 7 11 (1 ∷ []) ∷ filled 7 11 [] ∷ []
+  pub noRecord : partsOf oldForm (filled 7 10 []) ≡ []
+  pub twoRecords : partsOf oldForm (1 ∷ 2 ∷ 3 ∷ 4 ∷ 5 ∷ 6 ∷ 7 ∷ 8 ∷ 9 ∷ 10 ∷ 11 ∷ 12 ∷ 13 ∷ 14 ∷ 15 ∷ 16 ∷ 17 ∷ 18 ∷ 19 ∷ 20 ∷ 21 ∷ 22 ∷ []) ≡ (1 ∷ 2 ∷ 3 ∷ 4 ∷ 5 ∷ 6 ∷ 7 ∷ 8 ∷ 9 ∷ 10 ∷ 11 ∷ []) ∷ (12 ∷ 13 ∷ 14 ∷ 15 ∷ 16 ∷ 17 ∷ 18 ∷ 19 ∷ 20 ∷ 21 ∷ 22 ∷ []) ∷ []

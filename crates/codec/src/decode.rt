@@ -17,28 +17,28 @@ ghost use Rattle.codec.specs.Fields.{fieldAt, targetsAt};
 ghost use Rattle.codec.specs.Reading.{isOne, dateIn, marksFrom, sizesFrom, statusFrom, withoutTargets, blankRecord, baselineIn, visitFieldsIn, visitIn, spareIn, rawIn};
 ghost use Rattle.records.specs.Forms.{newForm};
 
-// The bit at which each field starts; kind is at 0.
-const YEAR: u32 = 3;
+// The bit at which each field starts; kind is at 0. In the old form all but the spare bits start there too.
+pub(crate) const YEAR: u32 = 3;
 
-const MONTH: u32 = 15;
+pub(crate) const MONTH: u32 = 15;
 
-const DAY: u32 = 19;
+pub(crate) const DAY: u32 = 19;
 
-const ASSESSED: u32 = 24;
+pub(crate) const ASSESSED: u32 = 24;
 
-const NONTARGET: u32 = 25;
+pub(crate) const NONTARGET: u32 = 25;
 
-const COUNT: u32 = 26;
+pub(crate) const COUNT: u32 = 26;
 
-const BASELINE_TARGETS: u32 = 29;
+pub(crate) const BASELINE_TARGETS: u32 = 29;
 
 const BASELINE_SPARE: u32 = 99;
 
-const STATUS: u32 = 24;
+pub(crate) const STATUS: u32 = 24;
 
-const NEW_LESION: u32 = 27;
+pub(crate) const NEW_LESION: u32 = 27;
 
-const VISIT_TARGETS: u32 = 28;
+pub(crate) const VISIT_TARGETS: u32 = 28;
 
 const VISIT_SPARE: u32 = 98;
 
@@ -86,7 +86,7 @@ fn sizes_at(s: &[u8], at: u32) -> [u16; 5]
     ]
 }
 
-fn status_from(n: u16) -> Status
+pub(crate) fn status_from(n: u16) -> Status
     ensures { λ r. ⌜ r ≡ statusFrom n ⌝ }
 {
     match n {
@@ -179,7 +179,7 @@ fn bit_set_behind_date(s: &[u8]) -> bool
             || (0 < field(s, 56, 16) || (0 < field(s, 72, 16) || 0 < field(s, 88, 16))))
 }
 
-fn record_without_targets(entry: Entry) -> Record
+pub(crate) fn record_without_targets(entry: Entry) -> Record
     ensures { λ r. ⌜ r ≡ withoutTargets entry ⌝ }
 {
     Record {

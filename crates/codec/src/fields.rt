@@ -3,7 +3,7 @@ ghost use mathlib.Core.Path.{_≡_};
 ghost use Prim.Native.Nat.{_+_, _*_, _/_, _%_, _^_, _≤_, _<_};
 ghost use lib.ListN.{length};
 ghost use Rattle.laws.specs.Layout.{before};
-ghost use Rattle.records.specs.Forms.{newForm};
+ghost use Rattle.records.specs.Forms.{Form, newForm};
 ghost use Rattle.codec.specs.Bytes.{recordLength};
 ghost use Rattle.codec.specs.Fields.{fieldAt};
 
@@ -23,10 +23,11 @@ fn bits_of(number: u32, shift: u32, width: u32) -> u16
     ((number >> shift) % (1 << width)) as u16
 }
 
-// The field of a width that starts at a bit, bit 0 being the most significant.
-pub(crate) fn field(s: &[u8], at: u32, width: u32) -> u16
-    requires { ⌜ (length (now s) ≡ recordLength) × (at + width ≤ 8 * recordLength) × (width ≤ 16) ⌝ }
-    ensures { λ r. ⌜ r ≡ fieldAt newForm (now (s .entry)) at width ⌝ }
+// The bits of a width that start at a bit, bit 0 being the most significant: the field there of each form whose length the bytes have. No form has more bytes
+// than the new one, so that every place fits.
+pub(crate) fn bits_at(s: &[u8], at: u32, width: u32) -> u16
+    requires { ⌜ (length (now s) ≤ recordLength) × (at + width ≤ 8 * length (now s)) × (width ≤ 16) ⌝ }
+    ensures { λ r. ⌜ ((form : Form) → length (now (s .entry)) ≡ form .recordLength → r ≡ fieldAt form (now (s .entry)) at width) ⌝ }
 {
     let past = at + width;
     let end = (past + 7) / 8;
@@ -34,4 +35,12 @@ pub(crate) fn field(s: &[u8], at: u32, width: u32) -> u16
     let second = byte_before(s, end as usize, 2);
     let third = byte_before(s, end as usize, 1);
     bits_of(first * 65536 + second * 256 + third, end * 8 - past, width)
+}
+
+// The field there of a record.
+pub(crate) fn field(s: &[u8], at: u32, width: u32) -> u16
+    requires { ⌜ (length (now s) ≡ recordLength) × (at + width ≤ 8 * recordLength) × (width ≤ 16) ⌝ }
+    ensures { λ r. ⌜ r ≡ fieldAt newForm (now (s .entry)) at width ⌝ }
+{
+    bits_at(s, at, width)
 }

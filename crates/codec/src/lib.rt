@@ -1,5 +1,5 @@
 // A record as 13 bytes, read from any byte string, and a file cut into such bytes (document 01, "Where a call stops", 1 to 5 and 13, and "Change in size,
-// file and listing").
+// file and listing"); a record of the old form read into such a one (document 02, request 1).
 use dates::Date;
 use records::CheckAnswer;
 use records::OwnRefusal;
@@ -10,13 +10,16 @@ ghost use mathlib.Core.Path.{_≡_};
 ghost use Rattle.laws.specs.Refusals.{first};
 ghost use Rattle.records.specs.Refusals.{checkNumber};
 ghost use Rattle.records.specs.Forms.{newUnit};
-ghost use Rattle.codec.specs.Reading.{isKind, refusalsOfRaw, blankRecord, JudgesRead, Reads, blankVisit, ReadsVisit};
+ghost use Rattle.codec.specs.Reading.{readNumber, isKind, refusalsOfRaw, blankRecord, JudgesRead, Reads, blankVisit, ReadsVisit};
 ghost use Rattle.codec.specs.declared.Raw.{Raw};
 
 mod fields; // fields.rt: the bits of one field
 mod decode; // decode.rt: bytes to what stands in them, before it is judged
+mod old; // old.rt: a record of the old form read into one of the new form
 mod parts; // parts.rt: whether a file can be cut into the bytes of its records
 
+pub use old::OLD_RECORD_LENGTH;
+pub use old::read_old;
 pub use parts::MOST_BYTES;
 pub use parts::bad_length;
 
@@ -56,6 +59,18 @@ pub(crate) struct Raw {
 }
 
 pub const RECORD_LENGTH: usize = 13;
+
+// The number in document 01; 0 where a record was read.
+pub fn read_number(answer: ReadAnswer) -> u8
+    ensures { λ r. ⌜ r ≡ readNumber answer ⌝ }
+{
+    match answer {
+        ReadAnswer::Done => 0,
+        ReadAnswer::WrongLength => 1,
+        ReadAnswer::NoSuchKind => 2,
+        ReadAnswer::Refused(own) => records::own_number(own),
+    }
+}
 
 fn refused(answer: ReadAnswer) -> ReadResult
     ensures { λ x. ⌜ (x .answer ≡ answer) × (x .found ≡ blankRecord) ⌝ }

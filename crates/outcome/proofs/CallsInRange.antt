@@ -144,7 +144,7 @@ from-bytes {s} {t} {bytes} {a} w e =
     let r = recordOfBytes newForm bytes in
     let behind = refusalsOfRecordHeld s r in
     let read : first (refusalsOfBytes newForm bytes ++ behind) ≡ first behind = after-reading newForm bytes behind ∙ rw e in
-    let own : first (refusalsOfRecord newUnit r ++ behind) ≡ first behind = after-own newUnit r behind ∙ rw (found-fine newForm bytes (w .octets) e) in
+    let own : first (refusalsOfRecord newUnit r ++ behind) ≡ first behind = after-own newUnit r behind ∙ rw (found-fine newForm bytes e) in
     let same : refusalOfAddingBytesHeld s bytes ≡ refusalOfAddingHeld s r = ap (pick (not (inRange s)) 12) (read ∙ sym own) in
     subst (λ (n : ℕ). Answered s (recordOfBytes newForm bytes) n a t) same (w .added)
 

@@ -21,7 +21,7 @@ use Rattle.outcome_rules.specs.Settled.{settledFrom, pfsSettledBy, bestS
 use Rattle.outcome_rules.specs.Adding.{refusalsOfStudyRecord, refusalsOfOpening, refusalsOfAdding}
 use Rattle.outcome_rules.specs.StarredExamples.{starred, Hold}
 use Rattle.outcome_rules.specs.FurtherExamples.{WordsOfCases, CoursesOfRecords, further, PrintedLines, FieldsThatPass}
-use Rattle.outcome_rules.specs.AddingExamples.{Unlawful, FittingStatuses, OnStudyDays, FirstRefusals, RepliedOfVisits}
+use Rattle.outcome_rules.specs.AddingExamples.{Unlawful, FittingStatuses, OnStudyDays, TimesTen, FirstRefusals, RepliedOfVisits}
 
 pub examples-hold : Hold starred × Hold further
 unfolding starred further entryPasses sizeOutsideLimits measuredOutsideLimits notZeroBeyondCount notZeroUnmeasured withoutDisease outsideLimits notZero measuredBeyond fitsBy fits sumOfDiameters baselineSum allMeasured allDisappeared progressionFromNadir partialResponse targetAnswer afterVisit overallBy overallAnswer overallAt gapLimit earlyDeathLimit pfs best duration settledFrom pfsSettledBy bestSettledBy durationSettledBy pfsSettled bestSettled durationSettled
@@ -92,6 +92,9 @@ on-study-days =
       eachKind = refl;
       withoutLesions = refl;
     }
+
+pub times-ten : TimesTen
+times-ten = record { eachKind = refl }
 
 pub first-refusals : FirstRefusals
 unfolding refusalsOfOpening refusalsOfAdding refusalsOfStudyRecord refusalsOfRead dateExists daysInMonth leapYear daysOfYears daysOfMonths dayNumber studyDayOf measuredBeyond fitsBy fits sizeOutsideLimits measuredOutsideLimits notZeroBeyondCount notZeroUnmeasured withoutDisease outsideLimits notZero

@@ -32,7 +32,7 @@ use Rattle.outcome_rules.specs.Adding.{isBaseline, tooEarly, misfits, re
 use Rattle.outcome_rules.specs.Tenfold.{tenfoldBaseline, tenfoldRecord, TenfoldLists}
 
 -- the newest of a list first, as before
-turned : (rs : List StudyRecord) → reverse (map tenfoldRecord rs) ≡ map tenfoldRecord (reverse rs)
+pub turned : (rs : List StudyRecord) → reverse (map tenfoldRecord rs) ≡ map tenfoldRecord (reverse rs)
 turned [] = refl
 turned (r ∷ rs) =
     reverse-append (tenfoldRecord r ∷ []) (map tenfoldRecord rs) ∙ ap (λ (l : Past). l ++ (tenfoldRecord r ∷ [])) (turned rs)

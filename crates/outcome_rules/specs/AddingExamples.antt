@@ -10,13 +10,14 @@ use Rattle.records.specs.declared.Status.{Status}
 use Rattle.records.specs.declared.Status.the-variants as S
 use Rattle.records.specs.declared.Record.{Record}
 use Rattle.records.specs.Examples.{fivePlaces, baselineDated, visitDated, therapyDated, deathDated}
-use Rattle.records.specs.Forms.{newUnit}
+use Rattle.records.specs.Forms.{newUnit, oldUnit}
 use Rattle.response_rules.specs.Words.{CR, PR, PD, NN}
 use Rattle.response_rules.specs.Change.{signed}
 use Rattle.outcome_rules.specs.StudyRecords.{Baseline, StudyRecord, baseline, visit, therapy, death, onStudyDays}
 use Rattle.outcome_rules.specs.LawfulLists.{lawful}
 use Rattle.outcome_rules.specs.VisitLines.{VisitLine}
 use Rattle.outcome_rules.specs.StarredExamples.{withTargets, oneTarget, withNode, visitOn, measuring}
+use Rattle.outcome_rules.specs.Tenfold.{tenfoldRecord}
 use Rattle.outcome_rules.specs.Adding.{refusalOfOpening, refusalOfAdding, responsesOfAdding, add, read, accepted}
 
 abbrev pub behindOneTarget : List StudyRecord → Bool
@@ -82,6 +83,16 @@ pub record OnStudyDays : Type 0 where
       ∷ [])
       ≡ baseline withNode ∷ visitOn 43 S.NN false (240 ∷ 120 ∷ []) ∷ visitOn 85 S.PD true (240 ∷ []) ∷ therapy 85 ∷ death 127 ∷ []
   pub withoutLesions : onStudyDays newUnit (baselineDated (ymd 2020 1 1) true false 1 [] (1000 ∷ []) ∷ []) ≡ baseline oneTarget ∷ []
+
+-- records of the old form, one unit a millimetre, with each size times ten
+pub record TimesTen : Type 0 where
+  pub eachKind : map tenfoldRecord
+      (baseline (record { unit = oldUnit; assessed = true; nontarget = true; count = 2; nodes = fivePlaces false (false ∷ true ∷ []); sizes = fivePlaces 0 (40 ∷ 20 ∷ []) })
+      ∷ visitOn 43 S.NN true (24 ∷ 12 ∷ [])
+      ∷ therapy 85
+      ∷ death 127
+      ∷ [])
+      ≡ baseline withNode ∷ visitOn 43 S.NN true (240 ∷ 120 ∷ []) ∷ therapy 85 ∷ death 127 ∷ []
 
 pub record FirstRefusals : Type 0 where
   -- opening: 3 to 5, then 7

@@ -3,7 +3,7 @@
 use mathlib.Core.Path.{refl}
 use Rattle.dates.specs.Calendar.{leapYear, daysInMonth, dateExists}
 use Rattle.records.specs.Refusals.{sizeOutsideLimits, measuredOutsideLimits, notZeroBeyondCount, notZeroUnmeasured, withoutDisease, outsideLimits, notZero, refusalsOfRead}
-use Rattle.records.specs.Examples.{OwnRefusals, NumbersOfCases}
+use Rattle.records.specs.Examples.{OwnRefusals, TwoForms, NumbersOfCases}
 
 pub own-refusals : OwnRefusals
 unfolding leapYear daysInMonth dateExists sizeOutsideLimits measuredOutsideLimits notZeroBeyondCount notZeroUnmeasured withoutDisease outsideLimits notZero refusalsOfRead
@@ -43,6 +43,9 @@ own-refusals =
       dateFirst = refl;
       limitsNext = refl;
     }
+
+pub two-forms : TwoForms
+two-forms = record { old = refl; new = refl; sizes = refl; whole = refl }
 
 pub numbers-of-cases : NumbersOfCases
 numbers-of-cases = record { kinds = refl; dates = refl; statuses = refl; refusals = refl; answers = refl }

@@ -17,7 +17,8 @@ use Rattle.records.specs.declared.Entry.the-variants as E
 use Rattle.records.specs.declared.Record.{Record}
 use Rattle.records.specs.declared.Status.{Status}
 use Rattle.records.specs.declared.Status.the-variants as S
-use Rattle.records.specs.Forms.{newUnit}
+use Rattle.records.specs.Forms.{oldForm, newForm, newUnit}
+use Rattle.records.specs.Tenfold.{timesTen, tenfold}
 
 -- so many places, the first of them as given
 abbrev pub filled : {A : Type 0} → A → ℕ → List A → List A
@@ -114,6 +115,13 @@ pub record OwnRefusals : Type 0 where
   -- 3 before 4, and 4 before 5
   pub dateFirst : first (refusalsOfRead newUnit (visitDated (ymd 2021 2 29) S.NN false (true ∷ []) (5001 ∷ 1 ∷ [])) true true) ≡ 3
   pub limitsNext : first (refusalsOfRead newUnit (visitDated (ymd 2020 2 12) S.NN false (true ∷ []) (5001 ∷ 1 ∷ [])) false true) ≡ 4
+
+-- the forms of document 02, request 1, and each size times ten
+pub record TwoForms : Type 0 where
+  pub old : oldForm ≡ record { recordLength = 11; sizeWidth = 10; unit = 1 }
+  pub new : newForm ≡ record { recordLength = 13; sizeWidth = 13; unit = 10 }
+  pub sizes : timesTen (0 ∷ 1 ∷ 40 ∷ []) ≡ 0 ∷ 10 ∷ 400 ∷ []
+  pub whole : tenfold (visitDated (ymd 2020 2 12) S.NN true (true ∷ true ∷ []) (24 ∷ 12 ∷ [])) ≡ visitDated (ymd 2020 2 12) S.NN true (true ∷ true ∷ []) (240 ∷ 120 ∷ [])
 
 pub record NumbersOfCases : Type 0 where
   -- 1 baseline, 2 visit, 3 therapy, 4 death

@@ -136,12 +136,8 @@ fn print_own(refusal: OwnRefusal) {
 }
 
 fn print_read(answer: ReadAnswer) {
-    match answer {
-        ReadAnswer::Done => text(b"0\n"),
-        ReadAnswer::WrongLength => text(b"1\n"),
-        ReadAnswer::NoSuchKind => text(b"2\n"),
-        ReadAnswer::Refused(own) => print_own(own),
-    }
+    io::print_decimal(libc::STDOUT_FILENO, codec::read_number(answer) as u64);
+    text(b"\n");
 }
 
 fn print_written(answer: WriteAnswer) {

@@ -7,7 +7,7 @@ use Rattle.response_rules.specs.Nadir.{afterVisit, nadirOf}
 use Rattle.response_rules.specs.OverallAnswer.{overallBy}
 use Rattle.response_rules.specs.Change.{changeBetween, changeOf}
 use Rattle.response_rules.specs.VisitAnswers.{overallAnswer}
-use Rattle.response_rules.specs.Examples.{Edges, OrdersAndPlaces, GridRows, OverallAlone, Nadirs, NadirsByTheTerm, WrongReadings, Printed, Changes, InMillimetres, WordsOfCases}
+use Rattle.response_rules.specs.Examples.{Edges, OrdersAndPlaces, GridRows, OverallAlone, Nadirs, NadirsByTheTerm, WrongReadings, Printed, Changes, InMillimetres, TimesTen, WordsOfCases}
 
 pub edges : Edges
 unfolding sumOfDiameters baselineSum allMeasured allDisappeared progressionFromNadir partialResponse targetAnswer afterVisit
@@ -116,6 +116,10 @@ changes =
 pub in-millimetres : InMillimetres
 unfolding sumOfDiameters baselineSum allMeasured allDisappeared progressionFromNadir partialResponse targetAnswer afterVisit
 in-millimetres = record { node9 = refl; node10 = refl; sum24 = refl; sum25 = refl; sum70 = refl; sum71 = refl }
+
+pub times-ten : TimesTen
+unfolding baselineSum
+times-ten = record { baseline = refl; missing = refl; visit = refl; newLesion = refl }
 
 pub words-of-cases : WordsOfCases
 words-of-cases = record { targets = refl; nontargets = refl; overalls = refl; changes = refl }

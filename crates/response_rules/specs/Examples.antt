@@ -16,6 +16,7 @@ use Rattle.response_rules.specs.SumOfDiameters.{sumOfDiameters, baseline
 use Rattle.response_rules.specs.Nadir.{afterVisit, nadirOf}
 use Rattle.response_rules.specs.OverallAnswer.{isPD, overallBy, evaluable}
 use Rattle.response_rules.specs.Change.{none, signed, changeValues, changeBetween, changeOf}
+use Rattle.response_rules.specs.Tenfold.{tenfoldDisease, tenfoldVisit}
 use Rattle.response_rules.specs.VisitAnswers.{targetAnswerAfter, overallAnswerAfter}
 use Rattle.response_rules.specs.declared.BaselineDisease.{BaselineDisease}
 use Rattle.response_rules.specs.declared.Earlier.{Earlier}
@@ -197,6 +198,13 @@ pub record InMillimetres : Type 0 where
   pub sum25 : targetAnswerAfter oldUnit (baselineWith [] (100 ∷ [])) (measuring (20 ∷ []) ∷ []) (measuring (25 ∷ [])) ≡ PD
   pub sum70 : targetAnswerAfter oldUnit (baselineWith [] (100 ∷ [])) [] (measuring (70 ∷ [])) ≡ PR
   pub sum71 : targetAnswerAfter oldUnit (baselineWith [] (100 ∷ [])) [] (measuring (71 ∷ [])) ≡ SD
+
+-- what a baseline leaves, and a visit, with each size times ten
+pub record TimesTen : Type 0 where
+  pub baseline : tenfoldDisease (baselineWith (true ∷ []) (20 ∷ 40 ∷ [])) ≡ baselineWith (true ∷ []) (200 ∷ 400 ∷ [])
+  pub missing : tenfoldDisease (diseaseOf (record { date = ymd 2020 1 1; assessed = false; nontarget = false; count = 0 }) [] []) ≡ diseaseOf (record { date = ymd 2020 1 1; assessed = false; nontarget = false; count = 0 }) [] []
+  pub visit : tenfoldVisit (measuring (24 ∷ 12 ∷ [])) ≡ measuring (240 ∷ 120 ∷ [])
+  pub newLesion : tenfoldVisit (record { status = S.PD; newLesion = true; measured = false ∷ []; sizes = 0 ∷ [] }) ≡ record { status = S.PD; newLesion = true; measured = false ∷ []; sizes = 0 ∷ [] }
 
 -- the words and values of the declared cases
 pub record WordsOfCases : Type 0 where

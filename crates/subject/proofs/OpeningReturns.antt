@@ -143,5 +143,5 @@ module _ (s : List ℕ) (read : ReadResult) (w : Reads s read) (x : OpenResult) 
       let none : refusalOfBytes newForm s ≡ 0 = sym (w .answer) ∙ ap readNumber p in
       let checked : OpensChecked (r .entry) (r .marks) (r .sizes) (x .answer) (x .subject) =
       subst (λ (y : Record). OpensChecked (y .entry) (y .marks) (y .sizes) (x .answer) (x .subject)) (w .found) q in
-      let opened = opened-checked r (x .answer) (x .subject) (found-fine newForm s (w .octets) none) checked in
+      let opened = opened-checked r (x .answer) (x .subject) (found-fine newForm s none) checked in
       record { answer = opened .0 ∙ sym (after-reading newForm s (refusalsOfOpening newUnit r) ∙ rw none); made = opened .1; octets = w .octets }

@@ -35,7 +35,7 @@ module _ (r : Record) (out last : List ℕ) (a : WriteAnswer) (fine : refusalOfR
   first-bytes = ap (take recordLength) (w .left) ∙ rw not-refused
 
   -- and the second what stands past them too
-  stored : last ≡ bytesOf newForm r ++ drop recordLength out
+  pub stored : last ≡ bytesOf newForm r ++ drop recordLength out
   unfolding outputOf
   stored = w .left ∙ rw not-refused
 
@@ -66,7 +66,7 @@ round-trips =
           );
       writtenBack = λ s out last a x q e room w.
           let accepted = sym (q .answer) ∙ e in
-          let fine : refusalOfRecord newUnit (x .found) ≡ 0 = rw (q .found) (found-fine newForm s (q .octets) accepted) in (
+          let fine : refusalOfRecord newUnit (x .found) ≡ 0 = rw (q .found) (found-fine newForm s accepted) in (
             done (x .found) out last a fine room w,
             stored (x .found) out last a fine room w ∙ rw (q .found, bytes-back s (q .octets) accepted),
           );

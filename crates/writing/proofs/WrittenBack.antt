@@ -79,12 +79,12 @@ number-again n r h a =
 
 module _ (s : List ℕ) (b : AreBytes s) (e : refusalOfBytes newForm s ≡ 0) where
   fit : Fit (bytes recordLength) s
-  fit = rw (whole newForm s b e) at (bytes-fit s b)
+  fit = rw (whole newForm s e) at (bytes-fit s b)
 
   pub bytes-back : bytesOf newForm (recordOfBytes newForm s) ≡ s
   unfolding bytesOf recordOfBytes bytesNumber
   bytes-back =
       let n = bytesNumber newForm s in
-      let f = fine newForm n (no-refusal newForm s b e) in
+      let f = fine newForm n (no-refusal newForm s e) in
       let a = raw-again n (kindIn newForm n) refl (f .low) (f .high) (f .passed .lawful) (f .passed .clear) in
       rw (e, number-again n (rawIn newForm (kindIn newForm n) n .read) (pack-lt (bytes recordLength) s fit) a) (unpack-pack (bytes recordLength) s fit)

@@ -1,30 +1,9 @@
--- `codec::fields::field` meets its contract: the law on a field read from three bytes, at what was found.
+-- `codec::fields::field` meets its contract.
 -- Assumes nothing.
-use mathlib.Core.Path.{refl}
-use native.Mathlib.Omega.{arith}
 use Rattle.records.specs.Forms.{newForm}
-use Rattle.codec.proofs.FieldOfThreeBytes.{field-read}
 use borrow.Author.Needs.{needs}
 use Rattle.codec.proofs.fields.field.Statement.{statement}
 use Rattle.codec.proofs.fields.field.Tie as tie
 
 pub field-spec : {M : Type 1} → statement M
-field-spec =
-    tie.close
-    (tie.spec
-    (λ c. search needs)
-    (λ c. search needs)
-    (λ c. search needs)
-    (λ c κs. search needs)
-    (λ c. search needs)
-    (λ c κs. search needs)
-    (λ c. search needs)
-    (λ c κs. search needs)
-    (λ c. search needs)
-    (λ c. search needs)
-    (λ c. search needs)
-    (λ c. search needs)
-    (λ c. search needs)
-    (λ c. search needs)
-    (λ c κs. search needs)
-    (λ c. let w = c .before .before .before .before in let p = w .before .pre in field-read newForm _ (λ k. omega (arith, w .shared-slice-known .given k)) (p .0) _ _ _ _ _ refl (p .1) (p .2) (rw (c .before .before .before .byte-before .ensures .0, c .before .before .byte-before2 .ensures .0, c .before .byte-before3 .ensures .0)) (c .bits-of .ensures)))
+field-spec = tie.close (tie.spec (λ c κs. search needs) (λ c. c .bits-at .ensures newForm (c .before .before .pre .0)))

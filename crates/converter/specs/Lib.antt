@@ -1,0 +1,4 @@
+pub mod Conversion
+pub mod Judging
+pub mod Laws
+pub mod Examples
