@@ -13,7 +13,6 @@ use Rattle.file.specs.declared.FileAnswer.{FileAnswer}
 use Rattle.file.specs.declared.FileAnswer.the-variants as A
 use Rattle.file.specs.declared.FileRefusal.{FileRefusal}
 use Rattle.file.specs.Verdict as F
-use Rattle.converter.specs.declared.ConvertAnswer.{ConvertAnswer}
 use Rattle.converter.specs.declared.ConvertAnswer.the-variants as C
 use Rattle.converter.specs.Conversion.{Conversion, refused, written, converted, conversionBy, conversionOf, outputBy, outputOf, Converts}
 use Rattle.converter.specs.Judging.{JudgesOldFile, AllRead}

@@ -2,16 +2,16 @@
 -- same verdict, the same lines of visits and the same listing.
 -- Assumes nothing.
 use mathlib.Core.Path.{_≡_, refl, sym, ap, _∙_}
-use mathlib.Core.Bool.{Bool, true, false, not}
+use mathlib.Core.Bool.{Bool, true, false}
 use mathlib.Core.List.{List, [], _∷_, _++_, map, map-append, reverse}
-use Prim.Native.Nat.{ℕ, zero, suc, _+_, _-_, _*_, _/_, _%_, _≤_}
+use Prim.Native.Nat.{ℕ, suc, _+_, _-_, _*_, _/_, _%_}
 use native.Mathlib.Nat.{mul-div-cancel}
 use native.Mathlib.Omega.{arith}
 use lib.Dec.{ltb, eqb}
 use lib.ListN.{length, take, drop, length-append, length-map}
 use lib.Seq.{take-append-seam, drop-append-seam}
 use borrow.Author.Tests.{eq-eqb, ne-eqb, le-ltb, eqb-true}
-use Rattle.laws.specs.Choice.{either, pick}
+use Rattle.laws.specs.Choice.{pick}
 use Rattle.laws.specs.Refusals.{Refusal, _when_, first}
 use Rattle.laws.proofs.FirstRefusal.{none-of-both}
 use Rattle.records.specs.Forms.{oldForm, oldUnit, newForm, newUnit}
@@ -29,7 +29,6 @@ use Rattle.codec.proofs.PartsJoined.{fair-length, length-parts}
 use Rattle.writing.proofs.ReadBack.{no-refusal-back, record-back}
 use Rattle.outcome_rules.specs.Values.{Outcome}
 use Rattle.outcome_rules.specs.StudyRecords.{StudyRecord, baseline, visit, therapy, death, onStudyDays}
-use Rattle.outcome_rules.specs.LawfulLists.{Past}
 use Rattle.outcome_rules.specs.Course.{Course, course}
 use Rattle.outcome_rules.specs.Settled.{outcomeFrom}
 use Rattle.outcome_rules.specs.VisitLines.{VisitLine, linesInOrder}

@@ -12,7 +12,7 @@ use borrow.Author.Tests.{eq-eqb, ne-eqb, eqb-true}
 use Rattle.laws.specs.Choice.{pick}
 use Rattle.laws.specs.Refusals.{Refusal, _when_, first}
 use Rattle.laws.proofs.FirstRefusal.{none-of-both}
-use Rattle.records.specs.Forms.{oldForm, oldUnit, newForm, newUnit}
+use Rattle.records.specs.Forms.{oldForm, oldUnit, newUnit}
 use Rattle.records.specs.Tenfold.{tenfold}
 use Rattle.records.specs.declared.Record.{Record}
 use Rattle.records.proofs.NoOwnRefusal.{none-after-own}

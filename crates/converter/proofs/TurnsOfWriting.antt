@@ -2,7 +2,7 @@
 -- Assumes nothing.
 use mathlib.Core.Path.{_≡_, refl, sym, ap, _∙_}
 use mathlib.Core.List.{List, [], _∷_, _++_, map, append-assoc, append-nil}
-use Prim.Native.Nat.{ℕ, zero, suc, _+_, _-_, _*_, _/_, _≤_, _<_}
+use Prim.Native.Nat.{ℕ, _+_, _-_, _*_, _/_, _≤_, _<_}
 use native.Mathlib.Nat.{sub-zero}
 use native.Mathlib.Omega.{arith}
 use borrow.Rule.Slice.PartMut.{postOf, putMid}
@@ -18,7 +18,6 @@ use Rattle.writing.specs.Writing.{Writes}
 use Rattle.writing.specs.declared.WriteAnswer.{WriteAnswer}
 use Rattle.writing.proofs.RoundTrip.{stored}
 use Rattle.records.specs.Refusals.{refusalOfRecord}
-use Rattle.records.specs.declared.Record.{Record}
 use Rattle.codec.specs.Bytes.{bytesOf}
 use Rattle.converter.specs.Conversion.{convertedPart, converted}
 use Rattle.converter.specs.Judging.{AllRead}

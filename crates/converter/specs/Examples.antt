@@ -1,13 +1,11 @@
 -- Document 02, request 1: old files, their verdicts, listings and conversions, and what is left of the output. Proved in proofs/AtTheEdges.antt.
 -- Assumes nothing.
 use mathlib.Core.Path.{_≡_}
-use mathlib.Core.Bool.{true, false}
 use mathlib.Core.List.{List, [], _∷_, _++_, map}
 use Prim.Native.Nat.{ℕ}
 use Rattle.records.specs.Forms.{oldForm, newForm}
 use Rattle.records.specs.Examples.{filled}
 use Rattle.codec.specs.Examples.{oldBaselineBytes}
-use Rattle.file.specs.declared.FileRefusal.{FileRefusal}
 use Rattle.file.specs.Verdict as F
 use Rattle.file.specs.Examples.{printedFile, printedOutcome}
 use Rattle.listing_text.specs.Text.{listingOf}
@@ -26,7 +24,7 @@ oldPrintedFile =
     ++ (eleven (0x4F ∷ 0xC8 ∷ 0x79 ∷ 0x48 ∷ 0x01 ∷ 0x02 ∷ 0x40 ∷ [])
     ++ eleven (0x4F ∷ 0xC8 ∷ 0xA6 ∷ 0x48 ∷ 0x01 ∷ 0x03 ∷ 0xC0 ∷ [])))
 
--- its baseline alone, and a therapy of 2020-01-01
+-- a therapy of 2020-01-01
 abbrev pub oldTherapy : List ℕ
 oldTherapy = eleven (0x6F ∷ 0xC8 ∷ 0x21 ∷ [])
 
@@ -34,7 +32,7 @@ pub record OldFiles : Type 0 where
   -- the two readings, each by its own form
   pub verdict : F.verdictOf oldForm oldPrintedFile ≡ F.accepted printedOutcome
   pub listing : listingOf oldForm oldPrintedFile ≡ listingOf newForm printedFile
-  -- 13 by 11 bytes; 2, 7, 8 and 10 with their index
+  -- 13 by 11 bytes; 2, 7 and 8 with their index
   pub thirteenBytes : F.verdictOf oldForm (oldBaselineBytes ++ (0 ∷ 0 ∷ [])) ≡ F.refused 13 0
   pub kind0 : F.verdictOf oldForm (oldBaselineBytes ++ eleven []) ≡ F.refused 2 1
   pub therapyFirst : F.verdictOf oldForm oldTherapy ≡ F.refused 7 0
@@ -47,7 +45,7 @@ pub record ConversionsAtTheEdges : Type 0 where
   pub room : conversionOf oldPrintedFile (filled 7 52 []) ≡ written 52
   pub tooShort : conversionOf oldPrintedFile (filled 7 51 []) ≡ refused 6 0
   pub seven : conversionOf oldTherapy [] ≡ refused 7 0
-  pub thirteen : conversionOf [] [] ≡ refused 13 0
+  pub thirteen : conversionOf (oldBaselineBytes ++ (0 ∷ 0 ∷ [])) [] ≡ refused 13 0
   pub eight : conversionOf (oldBaselineBytes ++ oldBaselineBytes) [] ≡ refused 8 1
   -- bytes past what is written are untouched, and all of them where refused
   pub past : outputOf oldPrintedFile (filled 7 54 []) ≡ printedFile ++ (7 ∷ 7 ∷ [])

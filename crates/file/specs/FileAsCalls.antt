@@ -66,7 +66,7 @@ pub record PartsCalled (ps : List (List ℕ)) : Type 0 where
   pub reads : ReadsOutcome left reading
 
 pub record FileAsCalls : Type 0 where
-  -- where 13 does not meet a file, its parts have 11 bytes each and joined are the file
+  -- where 13 does not meet a file, each of its parts has a record's length, and joined they are the file
   pub cut : Cuts newForm
   -- and the calls have answers
   pub called : (s : List ℕ) → AreBytes s → badLength newForm (length s) ≡ false → PartsCalled (partsOf newForm s)

@@ -9,7 +9,7 @@ ghost use Rattle.codec.specs.Reading.{recordOfBytes};
 ghost use Rattle.history.specs.Replay.{recordsIn, Replayed};
 ghost use Rattle.records.specs.Forms.{newForm};
 
-// The record in 11 bytes; the blank one, which opening and adding refuse by 3, where reading refuses them.
+// The record in a part's bytes; the blank one, which opening and adding refuse by 3, where reading refuses them.
 fn record_in(part: &[u8]) -> Record
     ensures { λ r. ⌜ r ≡ recordOfBytes newForm (now (part .entry)) ⌝ }
 {

@@ -14,7 +14,7 @@ use Rattle.records.specs.declared.Record.{Record}
 use Rattle.records.specs.Entries.{Five}
 use Rattle.records.specs.Refusals.{refusalOfRecord}
 use Rattle.records.proofs.NoOwnRefusal.{none-after-own}
-use Rattle.records.specs.Forms.{newForm, newUnit}
+use Rattle.records.specs.Forms.{newUnit}
 use Rattle.outcome_rules.specs.StudyRecords.{Baseline, StudyRecord, dayOf, entryOnStudyDay}
 use Rattle.outcome_rules.specs.LawfulLists.{Past}
 use Rattle.outcome_rules.specs.VisitLines.{linesOfRecord}

@@ -18,7 +18,7 @@ use Rattle.response_rules.specs.Inputs.{Visit}
 use Rattle.response_rules.specs.SumOfDiameters.{sumWhere, sumOfDiameters, baselineSum, allMeasured}
 use Rattle.response_rules.specs.Change.{Tenths, none, signed, nearest, roundedChange, changeBetween, changeOf}
 use Rattle.outcome_rules.proofs.CompleteVisit.{limits-and-zeros}
-use Rattle.outcome_rules.specs.StudyRecords.{Baseline, baseline, visit, disease, entryOfBaseline, entryOfVisit, baselinePasses, fieldsPass}
+use Rattle.outcome_rules.specs.StudyRecords.{Baseline, visit, disease, entryOfBaseline, entryOfVisit, baselinePasses, fieldsPass}
 use Rattle.outcome_rules.specs.LawfulLists.{measuredBeyond, fitsBy, fits}
 use Rattle.listing_text.specs.Text.{tenthsText, changeText}
 use Rattle.listing_text.proofs.TextLengths.{tenths-length}

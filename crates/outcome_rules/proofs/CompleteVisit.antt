@@ -22,7 +22,7 @@ use Rattle.response_rules.specs.SumOfDiameters.{allMeasured}
 use Rattle.response_rules.specs.TargetAnswer.{allDisappeared, targetAnswer}
 use Rattle.response_rules.specs.OverallAnswer.{overallBy}
 use Rattle.response_rules.specs.VisitAnswers.{overallAnswer, targetAnswerAfter, overallAnswerAfter}
-use Rattle.outcome_rules.specs.StudyRecords.{Baseline, baseline, visit, disease, entryPasses, entryOfBaseline, baselinePasses, fieldsPass}
+use Rattle.outcome_rules.specs.StudyRecords.{Baseline, visit, disease, entryPasses, entryOfBaseline, baselinePasses, fieldsPass}
 use Rattle.outcome_rules.specs.LawfulLists.{Past, latestDay, died, measuredBeyond, fitsBy, fits, lawfulBehind}
 use Rattle.outcome_rules.specs.Course.{visitsOf, overallAt}
 

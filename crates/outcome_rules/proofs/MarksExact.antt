@@ -9,7 +9,7 @@ use lib.Dec.{leb}
 use borrow.Author.Tests.{leb-true, leb-false}
 use Rattle.laws.proofs.Tests.{never, either-with-true}
 use Rattle.outcome_rules.specs.Values.{none, isRecorded, exists}
-use Rattle.outcome_rules.specs.StudyRecords.{Baseline, baseline, baselinePasses}
+use Rattle.outcome_rules.specs.StudyRecords.{Baseline, baselinePasses}
 use Rattle.outcome_rules.specs.LawfulLists.{Past, lawfulBehind}
 use Rattle.outcome_rules.specs.Course.{Course, course, latestDayIn, deathDayIn, therapyRecorded, progression}
 use Rattle.outcome_rules.specs.Pfs.{earlyDeathLimit, pfs}

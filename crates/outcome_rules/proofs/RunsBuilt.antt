@@ -8,7 +8,7 @@ use native.Mathlib.Omega.{arith}
 use borrow.Author.Tests.{le-leb}
 use Rattle.response_rules.specs.Words.{CR}
 use Rattle.outcome_rules.specs.Values.{none}
-use Rattle.outcome_rules.specs.StudyRecords.{Baseline, baseline, visit, death, baselinePasses}
+use Rattle.outcome_rules.specs.StudyRecords.{Baseline, visit, death, baselinePasses}
 use Rattle.outcome_rules.specs.LawfulLists.{Past, latestDay, died, lawfulBehind}
 use Rattle.outcome_rules.specs.Course.{Occurrence, judgedVisit, deathOn, Course, course, latestDayIn, deathDayIn}
 use Rattle.outcome_rules.specs.BestResponse.{confirmationDays}

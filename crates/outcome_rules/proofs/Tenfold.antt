@@ -15,10 +15,10 @@ use Rattle.records.specs.declared.Entry.{Entry}
 use Rattle.records.specs.declared.Entry.the-variants as E
 use Rattle.records.specs.declared.Record.{Record}
 use Rattle.records.proofs.Tenfold.{same-refusals}
-use Rattle.response_rules.specs.Words.{Word, statusWord}
+use Rattle.response_rules.specs.Words.{statusWord}
 use Rattle.response_rules.specs.SumOfDiameters.{baselineSum}
 use Rattle.response_rules.specs.Inputs.{Visit}
-use Rattle.response_rules.specs.Change.{Tenths, changeOf}
+use Rattle.response_rules.specs.Change.{changeOf}
 use Rattle.response_rules.specs.VisitAnswers.{targetAnswerAfter, overallAnswerAfter}
 use Rattle.response_rules.specs.Tenfold.{tenfoldDisease, tenfoldVisit}
 use Rattle.response_rules.specs.declared.BaselineDisease.{BaselineDisease}
@@ -26,7 +26,7 @@ use Rattle.response_rules.proofs.Tenfold.{sum-tenfold, tenfold-answers}
 use Rattle.outcome_rules.specs.Values.{Day, on, isRecorded, _orElse_}
 use Rattle.outcome_rules.specs.StudyRecords.{Baseline, StudyRecord, baseline, visit, therapy, death, disease, entryOnStudyDay, onStudyDay, onStudyDays}
 use Rattle.outcome_rules.specs.LawfulLists.{Past, latestDay, deathDay, died, fits}
-use Rattle.outcome_rules.specs.Course.{visitsOf, Judged, judgedVisit, therapyOn, deathOn, Course, overallAt, course}
+use Rattle.outcome_rules.specs.Course.{visitsOf, judgedVisit, therapyOn, deathOn, Course, overallAt, course}
 use Rattle.outcome_rules.specs.VisitLines.{VisitLine, lineOfVisit, linesOfRecord, visitLines, linesInOrder}
 use Rattle.outcome_rules.specs.Adding.{isBaseline, tooEarly, misfits, refusalsOfStudyRecord, refusalsOfStudyRecordInOrder, notBaseline, refusalsOfOpening, refusalsOfAdding}
 use Rattle.outcome_rules.specs.Tenfold.{tenfoldBaseline, tenfoldRecord, TenfoldLists}

@@ -4,7 +4,6 @@
 use mathlib.Core.Path.{_≡_}
 use mathlib.Core.List.{List, map}
 use Prim.Native.Nat.{_*_}
-use Rattle.laws.specs.Refusals.{Refusal}
 use Rattle.records.specs.Forms.{oldUnit, newUnit}
 use Rattle.records.specs.Tenfold.{timesTen, tenfold}
 use Rattle.records.specs.declared.Record.{Record}

@@ -3,7 +3,7 @@
 use mathlib.Core.Path.{_≡_, refl, ap, _∙_}
 use mathlib.Core.Bool.{Bool, true, false, not}
 use mathlib.Core.List.{List, [], _∷_, map}
-use Prim.Native.Nat.{ℕ, zero, suc, _+_, _-_, _*_, _/_, min}
+use Prim.Native.Nat.{ℕ, zero, suc, _+_, _-_, _*_, min}
 use native.Mathlib.Nat.{mul-div-mul-left}
 use native.Mathlib.Omega.{arith}
 use lib.Dec.{ltb, leb, eqb}
@@ -20,7 +20,7 @@ use Rattle.response_rules.specs.Inputs.{Visit}
 use Rattle.response_rules.specs.TargetAnswer.{partialResponse, disappeared, allDisappeared, progressionFromNadir, targetAnswer}
 use Rattle.response_rules.specs.Nadir.{afterVisit, earlierOf}
 use Rattle.response_rules.specs.OverallAnswer.{overallBy}
-use Rattle.response_rules.specs.Change.{Tenths, none, signed, nearest, roundedChange, changeBetween, changeOf}
+use Rattle.response_rules.specs.Change.{none, signed, nearest, roundedChange, changeBetween, changeOf}
 use Rattle.response_rules.specs.VisitAnswers.{overallAnswer, targetAnswerAfter, overallAnswerAfter}
 use Rattle.response_rules.specs.Tenfold.{tenfoldDisease, tenfoldVisit, TenfoldAnswers}
 use Rattle.response_rules.specs.declared.BaselineDisease.{BaselineDisease}
