@@ -57,11 +57,11 @@ added-at-the-edges =
 
 pub lines-at-the-edges : LinesAtTheEdges
 unfolding leapYear daysInMonth dateExists daysOfYears daysOfMonths dayNumber studyDayOf sumOfDiameters allMeasured allDisappeared progressionFromNadir partialResponse targetAnswer overallBy overallAnswer changeBetween changeOf overallHeld
-lines-at-the-edges = record { visit = refl; therapy = refl; death = refl; afterProgression = refl; missing = refl; newLesion = refl }
+lines-at-the-edges = record { visit = refl; therapy = refl; death = refl; afterProgression = refl; missing = refl; newLesion = refl; node99 = refl; node100 = refl }
 
 pub order-by-value : OrderByValue
 unfolding leapYear daysInMonth dateExists daysOfYears daysOfMonths dayNumber studyDayOf sizeOutsideLimits measuredOutsideLimits notZeroBeyondCount notZeroUnmeasured withoutDisease outsideLimits notZero refusalsOfRead measuredBeyond fitsBy enrolmentInRange followUpInRange inRange refusalsOfEntryHeld refusalOfAddingHeld
-order-by-value = record { outsideFirst = refl; dateBeforeBaseline = refl; secondBaseline = refl; visit = refl }
+order-by-value = record { outsideFirst = refl; dateBeforeBaseline = refl; secondBaseline = refl; visit = refl; sizes = refl }
 
 pub order-from-bytes : OrderFromBytes
 unfolding leapYear daysInMonth dateExists daysOfYears daysOfMonths dayNumber studyDayOf sizeOutsideLimits measuredOutsideLimits notZeroBeyondCount notZeroUnmeasured withoutDisease outsideLimits notZero refusalsOfRead bytesNumber statusFrom baselineIn visitIn spareIn rawIn refusalsOfRecordNumber refusalsOfBytes recordOfBytes measuredBeyond fitsBy enrolmentInRange followUpInRange inRange refusalsOfEntryHeld refusalOfAddingBytesHeld

@@ -4,6 +4,7 @@
 use mathlib.Core.Path.{_≡_}
 use mathlib.Core.Bool.{true, false}
 use mathlib.Core.List.{List, [], _∷_, map}
+use Prim.Native.Nat.{ℕ}
 use Rattle.dates.specs.Laws.{ymd}
 use Rattle.records.specs.Examples.{visitDated, therapyDated, deathDated}
 use Rattle.codec.specs.Examples.{thirteen, printedBytes, printedVisitBytes}
@@ -115,6 +116,11 @@ pub record LinesAtTheEdges : Type 0 where
   -- a new lesion gives PD: V 85 PR NE PD -40.0
   pub newLesion : responsesHeld printedAfterVisit43 (visitDated (ymd 2020 3 25) S.NE true (true ∷ true ∷ []) (240 ∷ 120 ∷ []))
       ≡ record { day = 85; target = PR; nontarget = NE; overall = PD; change = signed true 400 } ∷ []
+  -- a node of 9.9 mm is normal, one of 10.0 is not: V 43 CR CR CR -83.5, V 43 PR CR PR -83.3
+  pub node99 : responsesHeld printedOpened (visitDated (ymd 2020 2 12) S.CR false (true ∷ true ∷ []) (0 ∷ 99 ∷ []))
+      ≡ record { day = 43; target = CR; nontarget = CR; overall = CR; change = signed true 835 } ∷ []
+  pub node100 : responsesHeld printedOpened (visitDated (ymd 2020 2 12) S.CR false (true ∷ true ∷ []) (0 ∷ 100 ∷ []))
+      ≡ record { day = 43; target = PR; nontarget = CR; overall = PR; change = signed true 833 } ∷ []
 
 -- a subject out of range by its latest day
 abbrev pub outside : Subject
@@ -126,6 +132,8 @@ pub record OrderByValue : Type 0 where
   pub dateBeforeBaseline : refusalOfAddingHeld printedOpened (printedBaseline (ymd 2021 2 29)) ≡ 3
   pub secondBaseline : refusalOfAddingHeld printedOpened (printedBaseline (ymd 2020 2 12)) ≡ 8
   pub visit : refusalOfAddingHeld printedOpened printedVisit43 ≡ 0
+  -- sizes of 500.0 and of 500.1 mm
+  pub sizes : map (λ (n : ℕ). refusalOfAddingHeld printedOpened (visitDated (ymd 2020 2 12) S.NN false (true ∷ []) (n ∷ []))) (5000 ∷ 5001 ∷ []) ≡ 0 ∷ 4 ∷ []
 
 -- from bytes: 12, then 1 and 2, then 3 to 5, then 8 to 11
 pub record OrderFromBytes : Type 0 where

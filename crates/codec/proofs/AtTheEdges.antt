@@ -72,6 +72,7 @@ old-records =
       spareOfBaseline = refl;
       spareOfVisit = refl;
       spareOfDeath = refl;
+      besideTenfold = refl;
     }
 
 pub fields-by-their-bits : FieldsByTheirBits

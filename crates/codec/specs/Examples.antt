@@ -13,8 +13,10 @@ use Rattle.records.specs.declared.Record.{Record}
 use Rattle.records.specs.declared.Status.{Status}
 use Rattle.records.specs.declared.Status.the-variants as S
 use Rattle.records.specs.Forms.{oldForm, newForm}
+use Rattle.records.specs.Tenfold.{tenfold}
 use Rattle.codec.specs.Bytes.{recordLength, bytesOf}
 use Rattle.codec.specs.Fields.{fieldAt, targetsAt}
+use Rattle.codec.specs.RawWith.{rawWith}
 use Rattle.codec.specs.Reading.{readNumber, refusalOfBytes, recordOfBytes, visitFieldsOf}
 use Rattle.codec.specs.declared.ReadAnswer.the-variants as A
 use Rattle.codec.specs.declared.VisitFields.{VisitFields}
@@ -156,6 +158,8 @@ pub record OldRecords : Type 0 where
   pub spareOfBaseline : map (λ (n : ℕ). refusalOfBytes oldForm (0x2F ∷ 0xC8 ∷ 0x21 ∷ 0x88 ∷ 0x14 ∷ 0 ∷ 0 ∷ 0 ∷ 0 ∷ 0 ∷ n ∷ [])) (0x08 ∷ 0x01 ∷ []) ≡ 5 ∷ 5 ∷ []
   pub spareOfVisit : map (λ (n : ℕ). refusalOfBytes oldForm (0x4F ∷ 0xC8 ∷ 0x4C ∷ 0x10 ∷ 0 ∷ 0 ∷ 0 ∷ 0 ∷ 0 ∷ 0 ∷ n ∷ [])) (0x10 ∷ 0x01 ∷ []) ≡ 5 ∷ 5 ∷ []
   pub spareOfDeath : map (refusalOfBytes oldForm) (filled 0 11 (0x8F ∷ 0xC8 ∷ 0x54 ∷ 0x80 ∷ []) ∷ (0x8F ∷ 0xC8 ∷ 0x54 ∷ 0 ∷ 0 ∷ 0 ∷ 0 ∷ 0 ∷ 0 ∷ 0 ∷ 0x01 ∷ []) ∷ []) ≡ 5 ∷ 5 ∷ []
+  -- what has no place in a record stays beside it
+  pub besideTenfold : rawWith tenfold (record { read = oldBaseline; badstatus = true; spare = false }) ≡ record { read = printedBaseline; badstatus = true; spare = false }
 
 -- kind, year, month, day, assessed, non-target and count of a baseline, and its targets from bit 29 on; the targets of two visits, from bit 28 on
 pub record FieldsByTheirBits : Type 0 where

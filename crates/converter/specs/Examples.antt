@@ -48,7 +48,7 @@ pub record ConversionsAtTheEdges : Type 0 where
   pub thirteen : conversionOf (oldBaselineBytes ++ (0 ∷ 0 ∷ [])) [] ≡ refused 13 0
   pub eight : conversionOf (oldBaselineBytes ++ oldBaselineBytes) [] ≡ refused 8 1
   -- bytes past what is written are untouched, and all of them where refused
-  pub past : outputOf oldPrintedFile (filled 7 54 []) ≡ printedFile ++ (7 ∷ 7 ∷ [])
+  pub past : outputOf oldPrintedFile (filled 7 55 []) ≡ printedFile ++ (7 ∷ 7 ∷ 7 ∷ [])
   pub left : outputOf oldPrintedFile (filled 7 51 []) ≡ filled 7 51 []
   pub leftOfRefused : outputOf oldTherapy (filled 7 13 []) ≡ filled 7 13 []
   pub leftOfLate : outputOf (oldBaselineBytes ++ oldBaselineBytes) (filled 7 27 []) ≡ filled 7 27 []

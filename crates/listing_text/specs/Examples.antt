@@ -11,6 +11,7 @@ use Rattle.outcome_rules.specs.StudyRecords.{baseline}
 use Rattle.outcome_rules.specs.VisitLines.{VisitLine}
 use Rattle.outcome_rules.specs.StarredExamples.{withNode}
 use Rattle.outcome_rules.specs.FurtherExamples.{visit43, visit85, visit127}
+use Rattle.codec.specs.Examples.{thirteen}
 use Rattle.file.specs.Verdict as F
 use Rattle.file.specs.Examples.{printedFile, printedOutcome}
 use Rattle.listing_text.specs.Text.{changeText, visitText, bestText, durationText, settledText, outcomeText, refusalText, listingText, listingOf, pageOf}
@@ -92,5 +93,5 @@ pub record LinesAtTheEdges : Type 0 where
   -- R 13 0 and R 9 10: no zero in front
   pub refused : refusalText 13 0 ≡ 82 ∷ 32 ∷ 49 ∷ 51 ∷ 32 ∷ 48 ∷ 10 ∷ []
   pub index10 : refusalText 9 10 ≡ 82 ∷ 32 ∷ 57 ∷ 32 ∷ 49 ∷ 48 ∷ 10 ∷ []
-  -- the listing of no bytes into a page of the bytes 1 to 11
-  pub page : pageOf [] (1 ∷ 2 ∷ 3 ∷ 4 ∷ 5 ∷ 6 ∷ 7 ∷ 8 ∷ 9 ∷ 10 ∷ 11 ∷ []) ≡ 82 ∷ 32 ∷ 49 ∷ 51 ∷ 32 ∷ 48 ∷ 10 ∷ 8 ∷ 9 ∷ 10 ∷ 11 ∷ []
+  -- R 2 0, the listing of 13 bytes of kind 0, into a page of the bytes 1 to 11
+  pub page : pageOf (thirteen []) (1 ∷ 2 ∷ 3 ∷ 4 ∷ 5 ∷ 6 ∷ 7 ∷ 8 ∷ 9 ∷ 10 ∷ 11 ∷ []) ≡ 82 ∷ 32 ∷ 50 ∷ 32 ∷ 48 ∷ 10 ∷ 7 ∷ 8 ∷ 9 ∷ 10 ∷ 11 ∷ []

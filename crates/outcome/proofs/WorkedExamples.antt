@@ -65,7 +65,7 @@ read-at-the-edges =
 
 pub replies-at-the-edges : RepliesAtTheEdges
 unfolding leapYear daysInMonth dateExists daysOfYears daysOfMonths dayNumber studyDayOf sizeOutsideLimits measuredOutsideLimits notZeroBeyondCount notZeroUnmeasured withoutDisease outsideLimits notZero refusalsOfRead sumOfDiameters baselineSum allMeasured allDisappeared progressionFromNadir partialResponse targetAnswer afterVisit overallBy overallAnswer measuredBeyond fitsBy fits overallAt gapLimit earlyDeathLimit pfs best duration settledFrom pfsSettledBy bestSettledBy durationSettledBy pfsSettled bestSettled durationSettled refusalsOfStudyRecord refusalsOfAdding changeBetween changeOf lineOfVisit
-replies-at-the-edges = record { replied = refl }
+replies-at-the-edges = record { replied = refl; tenths = refl }
 
 pub values-of-cases : ValuesOfCases
 values-of-cases = record { outOfRange = refl; pfsSettled = refl; bestSettled = refl; durationSettled = refl }

@@ -3,20 +3,21 @@
 -- Assumes nothing.
 use mathlib.Core.Path.{_≡_}
 use mathlib.Core.Bool.{Bool, true, false}
-use mathlib.Core.List.{[], _∷_}
+use mathlib.Core.List.{List, [], _∷_}
 use Prim.Native.Nat.{ℕ}
 use Rattle.dates.specs.Laws.{ymd}
 use Rattle.records.specs.Examples.{visitDated, therapyDated}
 use Rattle.records.specs.declared.Record.{Record}
 use Rattle.records.specs.declared.Status.the-variants as S
 use Rattle.response_rules.specs.Words.{Word, CR, PR, SD, PD, NE, NN}
-use Rattle.response_rules.specs.Change.{signed}
+use Rattle.response_rules.specs.Change.{Tenths, signed}
 use Rattle.outcome_rules.specs.declared.BestResponse.the-variants as B
 use Rattle.outcome_rules.specs.declared.DurationAnswer.the-variants as D
 use Rattle.outcome_rules.specs.declared.MaybeDay.{MaybeDay}
 use Rattle.outcome_rules.specs.declared.MaybeDay.the-variants as M
 use Rattle.outcome_rules.specs.declared.PfsStatus.the-variants as E
 use Rattle.outcome_rules.specs.Values.{Pfs, Duration, Outcome, CENSORED, EVENT, event, censored, noDuration, forDays}
+use Rattle.outcome_rules.specs.VisitLines.{VisitLine}
 use Rattle.outcome_rules.specs.Adding.{add, read}
 use Rattle.outcome_rules.specs.AddingExamples.{printedBaseline, printedVisit43}
 use Rattle.subject.specs.declared.EventDays.{EventDays}
@@ -94,6 +95,14 @@ pub record ReadAtTheEdges : Type 0 where
   pub lateDeath : readingOf (heldWith true 120 false (onDay 120) (events M.Absent 43 M.Absent) noCounts)
       ≡ reads (censored 1) NE noDuration true true true
 
+-- a visit of 2020 with a target and a node, both measured, and non-target disease gone
+abbrev pub measures : ℕ → ℕ → ℕ → ℕ → Record
+measures month day target node = visitDated (ymd 2020 month day) S.CR false (true ∷ true ∷ []) (target ∷ node ∷ [])
+
+-- the responses at such a visit
+abbrev pub line : ℕ → Word → Word → Tenths → List VisitLine
+line day target overall change = record { day = day; target = target; nontarget = CR; overall = overall; change = change } ∷ []
+
 -- the replies of a list of calls on the printed baseline: the visit of day 43 added, with its responses, read, added again (10), and a therapy on its day
 pub record RepliesAtTheEdges : Type 0 where
   pub replied : replies (printedBaseline (ymd 2020 1 1)) (add printedVisit43 ∷ read ∷ add printedVisit43 ∷ add (therapyDated (ymd 2020 2 12)) ∷ read ∷ [])
@@ -102,6 +111,19 @@ pub record RepliesAtTheEdges : Type 0 where
       ∷ added 10 []
       ∷ added 0 []
       ∷ outcomeRead (reads (censored 43) SD noDuration false true true)
+      ∷ []
+  -- in tenths: 500.1 mm is refused; a node of 9.9 mm is normal; 14.9 mm is 5.0 mm above the nadir; 500.0 mm is accepted, and the next record is on its day
+  pub tenths : replies (printedBaseline (ymd 2020 1 1))
+      (add (measures 2 12 5001 99) ∷ add (measures 2 12 0 99) ∷ add (measures 3 25 0 99) ∷ read ∷ add (measures 5 6 0 149) ∷ read
+      ∷ add (measures 6 17 5000 99) ∷ add (measures 6 17 0 99) ∷ [])
+      ≡ added 4 []
+      ∷ added 0 (line 43 CR CR (signed true 835))
+      ∷ added 0 (line 85 CR CR (signed true 835))
+      ∷ outcomeRead (reads (censored 85) CR (forDays CENSORED 43) false true false)
+      ∷ added 0 (line 127 PD PD (signed true 752))
+      ∷ outcomeRead (reads (event 127) CR (forDays EVENT 85) true true true)
+      ∷ added 0 (line 169 PD PD (signed false 7498))
+      ∷ added 10 []
       ∷ []
 
 -- CENSORED 85, PR, CENSORED 43, with these marks of PFS, best and duration

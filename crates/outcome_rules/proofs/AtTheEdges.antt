@@ -94,7 +94,7 @@ on-study-days =
     }
 
 pub times-ten : TimesTen
-times-ten = record { eachKind = refl }
+times-ten = record { eachKind = refl; anyUnit = refl }
 
 pub first-refusals : FirstRefusals
 unfolding refusalsOfOpening refusalsOfAdding refusalsOfStudyRecord refusalsOfRead dateExists daysInMonth leapYear daysOfYears daysOfMonths dayNumber studyDayOf measuredBeyond fitsBy fits sizeOutsideLimits measuredOutsideLimits notZeroBeyondCount notZeroUnmeasured withoutDisease outsideLimits notZero

@@ -17,7 +17,7 @@ use Rattle.outcome_rules.specs.StudyRecords.{Baseline, StudyRecord, base
 use Rattle.outcome_rules.specs.LawfulLists.{lawful}
 use Rattle.outcome_rules.specs.VisitLines.{VisitLine}
 use Rattle.outcome_rules.specs.StarredExamples.{withTargets, oneTarget, withNode, visitOn, measuring}
-use Rattle.outcome_rules.specs.Tenfold.{tenfoldRecord}
+use Rattle.outcome_rules.specs.Tenfold.{tenfoldBaseline, tenfoldRecord}
 use Rattle.outcome_rules.specs.Adding.{refusalOfOpening, refusalOfAdding, responsesOfAdding, add, read, accepted}
 
 abbrev pub behindOneTarget : List StudyRecord → Bool
@@ -93,6 +93,9 @@ pub record TimesTen : Type 0 where
       ∷ death 127
       ∷ [])
       ≡ baseline withNode ∷ visitOn 43 S.NN true (240 ∷ 120 ∷ []) ∷ therapy 85 ∷ death 127 ∷ []
+  -- at any unit, here 2 and 20 units a millimetre
+  pub anyUnit : tenfoldBaseline (record { unit = 2; assessed = true; nontarget = false; count = 1; nodes = fivePlaces false []; sizes = fivePlaces 0 (40 ∷ []) })
+      ≡ record { unit = 20; assessed = true; nontarget = false; count = 1; nodes = fivePlaces false []; sizes = fivePlaces 0 (400 ∷ []) }
 
 pub record FirstRefusals : Type 0 where
   -- opening: 3 to 5, then 7

@@ -192,8 +192,8 @@ pub record Changes : Type 0 where
 
 -- the old form's sizes: nodes of 9 and 10 mm, growth by 4 and 5 mm, sums of 70 and 71 % of the baseline's
 pub record InMillimetres : Type 0 where
-  pub node9 : targetAnswerAfter oldUnit (baselineWith (true ∷ []) (20 ∷ 40 ∷ [])) [] (measuring (9 ∷ 0 ∷ [])) ≡ CR
-  pub node10 : targetAnswerAfter oldUnit (baselineWith (true ∷ []) (20 ∷ 40 ∷ [])) [] (measuring (10 ∷ 0 ∷ [])) ≡ PR
+  pub node9 : targetAnswerAfter oldUnit (baselineWith (false ∷ true ∷ []) (40 ∷ 20 ∷ [])) [] (measuring (0 ∷ 9 ∷ [])) ≡ CR
+  pub node10 : targetAnswerAfter oldUnit (baselineWith (false ∷ true ∷ []) (40 ∷ 20 ∷ [])) [] (measuring (0 ∷ 10 ∷ [])) ≡ PR
   pub sum24 : isPD (targetAnswerAfter oldUnit (baselineWith [] (100 ∷ [])) (measuring (20 ∷ []) ∷ []) (measuring (24 ∷ []))) ≡ false
   pub sum25 : targetAnswerAfter oldUnit (baselineWith [] (100 ∷ [])) (measuring (20 ∷ []) ∷ []) (measuring (25 ∷ [])) ≡ PD
   pub sum70 : targetAnswerAfter oldUnit (baselineWith [] (100 ∷ [])) [] (measuring (70 ∷ [])) ≡ PR

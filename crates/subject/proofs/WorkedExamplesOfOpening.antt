@@ -11,4 +11,4 @@ use Rattle.subject.specs.OpeningExamples.{OpenedAtTheEdges}
 
 pub opened-at-the-edges : OpenedAtTheEdges
 unfolding leapYear daysInMonth dateExists sizeOutsideLimits measuredOutsideLimits notZeroBeyondCount notZeroUnmeasured withoutDisease outsideLimits notZero refusalsOfRead baselineSum refusalsOfOpening subjectOfBaseline blankSubject openedSubject
-opened-at-the-edges = record { numbers = refl; printed = refl; withoutNontarget = refl; noDate = refl; visit = refl; therapy = refl; death = refl }
+opened-at-the-edges = record { numbers = refl; printed = refl; withoutNontarget = refl; largest = refl; tooLarge = refl; noDate = refl; visit = refl; therapy = refl; death = refl }

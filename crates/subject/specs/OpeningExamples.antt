@@ -26,6 +26,9 @@ pub record OpenedAtTheEdges : Type 0 where
   -- its date is the randomisation date; the latest day starts at 1; whether it has non-target lesions
   pub printed : openedSubject (printedBaseline (ymd 2020 1 1)) ≡ printedOpened
   pub withoutNontarget : openedSubject (baselineDated (ymd 2020 1 1) true false 1 [] (1000 ∷ [])) .enrolment .nontarget ≡ false
+  -- 500.0 mm opens, with the baseline sum, and 500.1 (4) does not
+  pub largest : openedSubject (baselineDated (ymd 2020 1 1) true false 1 [] (5000 ∷ [])) .enrolment .disease .baselinesum ≡ 5000
+  pub tooLarge : openedSubject (baselineDated (ymd 2020 1 1) true false 1 [] (5001 ∷ [])) ≡ zeros
   -- a refusal carries its number and nothing else: beside a baseline without a date (3), a visit, a therapy and a death (7) stands the blank
   pub noDate : openedSubject (printedBaseline (ymd 2021 2 29)) ≡ zeros
   pub visit : openedSubject printedVisit43 ≡ zeros
