@@ -77,7 +77,7 @@ old-records =
 
 pub fields-by-their-bits : FieldsByTheirBits
 unfolding bytesNumber
-fields-by-their-bits = record { head = refl; targets = refl; measured = refl; visit = refl; oldVisit = refl }
+fields-by-their-bits = record { head = refl; targets = refl; measured = refl; visit = refl; sizesAlone = refl; oldVisit = refl }
 
 pub fields-of-visits : FieldsOfVisits
 unfolding bytesNumber statusFrom visitFieldsIn visitFieldsOf

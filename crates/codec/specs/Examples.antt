@@ -168,6 +168,9 @@ pub record FieldsByTheirBits : Type 0 where
   pub targets : targetsAt newForm fiveTargetsBytes 29 ≡ 1 ∷ 211 ∷ 0 ∷ 322 ∷ 1 ∷ 433 ∷ 0 ∷ 544 ∷ 1 ∷ 655 ∷ []
   pub measured : targetsAt newForm fourMeasuredBytes 28 ≡ 1 ∷ 111 ∷ 1 ∷ 222 ∷ 0 ∷ 0 ∷ 1 ∷ 444 ∷ 1 ∷ 5000 ∷ []
   pub visit : targetsAt newForm printedVisitBytes 28 ≡ 1 ∷ 240 ∷ 1 ∷ 120 ∷ 0 ∷ 0 ∷ 0 ∷ 0 ∷ 0 ∷ 0 ∷ []
+  -- every bit of the sizes set and no mark, from bit 29 on
+  pub sizesAlone : targetsAt newForm (0 ∷ 0 ∷ 0 ∷ 0x03 ∷ 0xFF ∷ 0xEF ∷ 0xFF ∷ 0xBF ∷ 0xFE ∷ 0xFF ∷ 0xFB ∷ 0xFF ∷ 0xE0 ∷ []) 29
+      ≡ 0 ∷ 8191 ∷ 0 ∷ 8191 ∷ 0 ∷ 8191 ∷ 0 ∷ 8191 ∷ 0 ∷ 8191 ∷ []
   -- the old form, from bit 28 on
   pub oldVisit : targetsAt oldForm oldVisitBytes 28 ≡ 1 ∷ 11 ∷ 1 ∷ 22 ∷ 0 ∷ 0 ∷ 1 ∷ 44 ∷ 1 ∷ 500 ∷ []
 

@@ -21,6 +21,7 @@ mod parts; // parts.rt: whether a file can be cut into the bytes of its records
 pub use old::OLD_RECORD_LENGTH;
 pub use old::read_old;
 pub use parts::MOST_BYTES;
+pub use parts::MOST_RECORDS;
 pub use parts::bad_length;
 
 pub enum ReadAnswer {

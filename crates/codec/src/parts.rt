@@ -4,7 +4,7 @@ ghost use mathlib.Core.Path.{_≡_};
 ghost use Rattle.codec.specs.Parts.{badLength};
 ghost use Rattle.records.specs.Forms.{newForm};
 
-const MOST_RECORDS: usize = 4000;
+pub const MOST_RECORDS: usize = 4000;
 
 pub const MOST_BYTES: usize = MOST_RECORDS * RECORD_LENGTH;
 

@@ -29,7 +29,7 @@ use Rattle.converter.specs.Examples.{OldFiles, ConversionsAtTheEdges}
 
 pub old-files : OldFiles
 unfolding leapYear daysInMonth dateExists daysOfYears daysOfMonths dayNumber studyDayOf sizeOutsideLimits measuredOutsideLimits notZeroBeyondCount notZeroUnmeasured withoutDisease outsideLimits notZero refusalsOfRead bytesNumber statusFrom baselineIn visitIn rawIn refusalsOfRecordNumber refusalsOfBytes recordOfBytes badLength sumOfDiameters baselineSum allMeasured allDisappeared progressionFromNadir partialResponse targetAnswer afterVisit overallBy overallAnswer changeBetween changeOf measuredBeyond fitsBy fits overallAt gapLimit pfs best duration lineOfVisit pfsSettledBy bestSettledBy durationSettledBy pfsSettled bestSettled durationSettled refusalsOfStudyRecord refusalsOfOpening refusalsOfAdding startsLate verdictOf decimal tenthsText visitText pfsText bestText durationText settledText outcomeText refusalText listingOf spareIn
-old-files = record { verdict = refl; listing = refl; thirteenBytes = refl; kind0 = refl; therapyFirst = refl; secondBaseline = refl }
+old-files = record { verdict = refl; listing = refl; thirteenBytes = refl; kind0 = refl; therapyFirst = refl; secondBaseline = refl; readingFirst = refl }
 
 pub conversions-at-the-edges : ConversionsAtTheEdges
 unfolding leapYear daysInMonth dateExists daysOfYears daysOfMonths dayNumber studyDayOf sizeOutsideLimits measuredOutsideLimits notZeroBeyondCount notZeroUnmeasured withoutDisease outsideLimits notZero refusalsOfRead bytesNumber statusFrom baselineIn visitIn rawIn refusalsOfRecordNumber refusalsOfBytes recordOfBytes badLength sumOfDiameters baselineSum allMeasured allDisappeared progressionFromNadir partialResponse targetAnswer afterVisit overallBy overallAnswer changeBetween changeOf measuredBeyond fitsBy fits overallAt gapLimit pfs best duration lineOfVisit pfsSettledBy bestSettledBy durationSettledBy pfsSettled bestSettled durationSettled refusalsOfStudyRecord refusalsOfOpening refusalsOfAdding startsLate verdictOf decimal tenthsText visitText pfsText bestText durationText settledText outcomeText refusalText listingOf spareIn recordNumber bytesOf converted conversionOf outputOf

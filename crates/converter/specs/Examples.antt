@@ -10,6 +10,7 @@ use Rattle.file.specs.Verdict as F
 use Rattle.file.specs.Examples.{printedFile, printedOutcome}
 use Rattle.listing_text.specs.Text.{listingOf}
 use Rattle.converter.specs.declared.ConvertAnswer.the-variants as C
+use Rattle.converter.specs.Judging.{numberBehind}
 use Rattle.converter.specs.Conversion.{refused, written, converted, conversionOf, outputOf, conversionValues}
 
 -- an old record's bytes, the first of them as given
@@ -37,6 +38,8 @@ pub record OldFiles : Type 0 where
   pub kind0 : F.verdictOf oldForm (oldBaselineBytes ++ eleven []) ≡ F.refused 2 1
   pub therapyFirst : F.verdictOf oldForm oldTherapy ≡ F.refused 7 0
   pub secondBaseline : F.verdictOf oldForm (oldBaselineBytes ++ oldBaselineBytes) ≡ F.refused 8 1
+  -- the number of opening, here 7, where reading refuses nothing, and else reading's: no bytes, a therapy of 13 bytes, and a kind that is none
+  pub readingFirst : map (λ (part : List ℕ). numberBehind part 7) (oldTherapy ∷ [] ∷ filled 0 13 (0x6F ∷ 0xC8 ∷ 0x21 ∷ []) ∷ eleven [] ∷ []) ≡ 7 ∷ 1 ∷ 1 ∷ 2 ∷ []
 
 pub record ConversionsAtTheEdges : Type 0 where
   -- each size times ten, in the new form

@@ -1,6 +1,7 @@
 // An old file judged, by its own lengths and limits.
 use super::placing::add_old;
 use super::placing::open_old;
+use codec::MOST_RECORDS;
 use codec::OLD_RECORD_LENGTH;
 use file::FileAnswer;
 use file::FileRefusal;
@@ -10,7 +11,7 @@ ghost use Rattle.codec.specs.Parts.{badLength};
 ghost use Rattle.file.specs.Verdict.{fileValues, refused as stopped};
 ghost use Rattle.converter.specs.Judging.{JudgesOldFile};
 
-const MOST_OLD_BYTES: usize = 4000 * OLD_RECORD_LENGTH;
+const MOST_OLD_BYTES: usize = MOST_RECORDS * OLD_RECORD_LENGTH;
 
 // Refusal 13 of the old form.
 fn bad_old_length(n: usize) -> bool

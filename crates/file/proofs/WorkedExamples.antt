@@ -35,6 +35,7 @@ whole-files =
       visitBeforeBaseline = refl;
       laterKind0 = refl;
       secondBaseline = refl;
+      leastTarget = refl;
       afterDeath = refl;
       sameDay = refl;
       misfit = refl;

@@ -75,6 +75,10 @@ abbrev pub missingOutcome : Outcome
 missingOutcome =
     record { pfs = censored 1; best = NE; duration = noDuration; pfsSettled = false; bestSettled = true; durationSettled = true }
 
+-- a baseline whose one target has 10.0 mm, the least
+abbrev pub leastTargetBytes : List ℕ
+leastTargetBytes = thirteen (0x2F ∷ 0xC8 ∷ 0x21 ∷ 0x88 ∷ 0x0C ∷ 0x80 ∷ [])
+
 pub record WholeFiles : Type 0 where
   -- accepted: its outcome and marks
   pub printed : verdictOf newForm printedFile ≡ accepted printedOutcome
@@ -88,6 +92,8 @@ pub record WholeFiles : Type 0 where
   -- later ones: 2 to 5, then 8 to 11, with the record's index
   pub laterKind0 : verdictOf newForm (printedBytes ++ thirteen []) ≡ refused 2 1
   pub secondBaseline : verdictOf newForm (printedBytes ++ printedBytes) ≡ refused 8 1
+  -- the first and the second are judged by the limits of the form: neither is 4
+  pub leastTarget : verdictOf newForm (leastTargetBytes ++ leastTargetBytes) ≡ refused 8 1
   pub afterDeath : verdictOf newForm (printedBytes ++ (deathBytes ++ therapyBytes)) ≡ refused 9 2
   pub sameDay : verdictOf newForm (printedBytes ++ (printedVisitBytes ++ printedVisitBytes)) ≡ refused 10 2
   pub misfit : verdictOf newForm (oneTargetBytes ++ printedVisitBytes) ≡ refused 11 1
