@@ -17,7 +17,7 @@ use Rattle.response_rules.specs.Words.{Word}
 use Rattle.response_rules.specs.Inputs.{visit_of}
 use Rattle.response_rules.specs.Nadir.{earlier_of}
 use Rattle.response_rules.specs.VisitAnswers.{overall_answer, overall_answer_after}
-use Rattle.outcome_rules.specs.Values.{Day, on, is_recorded, ◌orElse◌}
+use Rattle.outcome_rules.specs.Values.{Day, on, is_recorded, ◌or_else◌}
 use Rattle.outcome_rules.specs.StudyRecords.{Baseline, disease, study_day, entry_on_study_day}
 use Rattle.outcome_rules.specs.LawfulLists.{Past, death_day, fits, lawful_behind}
 use Rattle.outcome_rules.specs.Course.{Course, visits_of, Judged, overall_at, judge, course, therapy_recorded, visits_in, progression, counting_closed, counting_visits}

@@ -1,5 +1,7 @@
 // Adding a record, from its value or its bytes: the refusals 1 to 5 and 8 to 12, the subject after it and the responses at a visit (document 01,
 // "Where a call stops", "Visit responses" and "Outcome"). That all of it follows the list of the records is proved here.
+#![tactic(auto)]
+
 ghost use Rattle.std.specs.Prelude.{◌≡◌};
 ghost use Rattle.adding.specs.Refusals.{add_number};
 
@@ -18,7 +20,7 @@ mod calls; // calls.rt: adding by value, where the caller keeps the subject, and
 pub use calls::{add, add_bytes, added};
 
 // The responses at a visit, which its line of the listing has too.
-#[derive(Drop)]
+#[derive(Clone, Copy)]
 pub struct VisitResponse {
     pub day: StudyDay,
     pub target: TargetAnswer,
@@ -27,7 +29,7 @@ pub struct VisitResponse {
     pub change: ChangeAnswer,
 }
 
-#[derive(Drop)]
+#[derive(Clone, Copy)]
 pub enum AddAnswer {
     // A therapy or a death was added.
     Done,
@@ -63,14 +65,14 @@ pub fn add_number(answer: AddAnswer) -> u8
 }
 
 // The subject after an addition; the same subject beside a refusal.
-#[derive(Drop)]
+#[derive(Clone, Copy)]
 pub struct AddResult {
     pub subject: Subject,
     pub answer: AddAnswer,
 }
 
 // A record, given or read, on its study day, with its own refusal or `Done`.
-#[derive(Drop)]
+#[derive(Clone, Copy)]
 pub(crate) struct Dated {
     pub(crate) day: StudyDay,
     pub(crate) own: AddAnswer,
@@ -78,7 +80,7 @@ pub(crate) struct Dated {
 }
 
 // The part of the subject that an addition moves, after it; the same beside a refusal.
-#[derive(Drop)]
+#[derive(Clone, Copy)]
 pub(crate) struct Step {
     pub(crate) followup: FollowUp,
     pub(crate) answer: AddAnswer,

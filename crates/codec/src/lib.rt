@@ -1,5 +1,7 @@
 // A record as 13 bytes, read from any byte string, and a file cut into such bytes (document 01, "Where a call stops", 1 to 5 and 13, and "Change in size,
 // file and listing"); a record of the old form read into such a one (document 02, request 1).
+#![tactic(auto)]
+
 ghost use Rattle.std.specs.Prelude.{◌≡◌};
 ghost use Rattle.laws.specs.Refusals.{first};
 ghost use Rattle.records.specs.Refusals.{check_number};
@@ -18,7 +20,7 @@ mod parts; // parts.rt: whether a file can be cut into the bytes of its records
 pub use old::{OLD_RECORD_LENGTH, read_old};
 pub use parts::{MOST_BYTES, MOST_RECORDS, bad_length};
 
-#[derive(Drop)]
+#[derive(Clone, Copy)]
 pub enum ReadAnswer {
     Done,
     WrongLength,
@@ -27,14 +29,14 @@ pub enum ReadAnswer {
 }
 
 // The record that was read; beside a refusal one fixed blank record.
-#[derive(Drop)]
+#[derive(Clone, Copy)]
 pub struct ReadResult {
     pub answer: ReadAnswer,
     pub found: Record,
 }
 
 // What bytes have as a visit, not judged.
-#[derive(Drop)]
+#[derive(Clone, Copy)]
 pub struct VisitFields {
     // Of kind 2. The date is that of any other kind too.
     pub isvisit: bool,
@@ -48,7 +50,7 @@ pub struct VisitFields {
 }
 
 // What is read before it is judged: a record, and what has no place in one.
-#[derive(Drop)]
+#[derive(Clone, Copy)]
 pub(crate) struct Raw {
     pub(crate) read: Record,
     // A status that is none.

@@ -1,6 +1,8 @@
 // Old files converted (document 02, request 1): the printed example, each refusal, the orders in which they are judged, what is left of the output, and the
 // longest file. The file `stdout`, to which what is printed is held, is worked out by hand. Of each conversion: its name; the number of bytes written, or R
 // with a number and an index; and behind a conversion what `history` shows of the file written.
+#![tactic(auto)]
+
 use converter::ConvertAnswer;
 use file::FileRefusal;
 

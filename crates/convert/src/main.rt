@@ -1,5 +1,7 @@
 // The program that converts (document 02, request 1): a file of the old form from standard input, the same file in the new form to standard output. A refused
 // file writes nothing to standard output, and R with its number and the index of a record to standard error.
+#![tactic(auto)]
+
 use converter::ConvertAnswer;
 use file::FileRefusal;
 

@@ -1,5 +1,7 @@
 // A file of the old form, of 11-byte records with sizes in whole millimetres, turned into the new one, each size times ten (document 02, request 1). That
 // the two are listed alike is proved here.
+#![tactic(auto)]
+
 ghost use Rattle.converter.specs.Conversion.{Converts};
 
 use codec::{OLD_RECORD_LENGTH, RECORD_LENGTH};
@@ -9,7 +11,7 @@ mod placing; // placing.rt: an old record opens a subject or is added to one
 mod judging; // judging.rt: an old file judged
 mod output; // output.rt: the records of an accepted file, written in the new form
 
-#[derive(Drop)]
+#[derive(Clone, Copy)]
 pub enum ConvertAnswer {
     Refused(FileRefusal),
     // How many bytes were written.

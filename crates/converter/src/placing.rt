@@ -5,7 +5,7 @@ ghost use Rattle.converter.specs.Judging.{OpensOld, AddsOld};
 
 use subject::Subject;
 
-#[derive(Drop)]
+#[derive(Clone, Copy)]
 pub(crate) struct Placed {
     // The number in document 01 of the first refusal; 0 where none meets.
     pub(crate) number: u8,

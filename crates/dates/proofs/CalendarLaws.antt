@@ -11,10 +11,8 @@ use lib.Dec.{ltb, eqb}
 use borrow.Author.Tests.{ltb-true, eqb-true, eqb-false}
 use Rattle.laws.specs.Choice.{both, either, pick}
 use Rattle.laws.proofs.Tests.{both_true}
-use Rattle.laws.proofs.EveryNumber.{all_at}
-use Rattle.dates.specs.Calendar.{first_year, last_day_number, leap_year, days_in_month, days_of_years, days_before_month, day_number}
+use Rattle.dates.specs.Calendar.{first_year, last_day_number, leap_year, days_in_month, days_of_years, days_of_months, day_number}
 use Rattle.dates.specs.Laws.{earlier, ymd, CalendarLaws}
-use Rattle.dates.specs.DayByDay.{days_of_months}
 use Rattle.dates.specs.declared.Date.{Date}
 use Rattle.dates.proofs.ClosedForms.{Exists, exists}
 
@@ -34,23 +32,14 @@ months_monotone : (leap : Bool) (m n : ℕ) → m ≤ n → days_of_months leap 
 unfolding days_of_months
 months_monotone leap = monotone (days_of_months leap) λ k. omega arith
 
--- the days before a month are those of the months before, added up
-abbrev sum_right : Bool → ℕ → Bool
-sum_right leap m = eqb (days_before_month leap m) (days_of_months leap (m - 1))
-
-pub months_added : (leap : Bool) (m : ℕ) → m ≤ 12 → days_before_month leap m ≡ days_of_months leap (m - 1)
-unfolding days_before_month days_of_months days_in_month
-months_added true m h = eqb-true _ _ (all_at (sum_right true) 13 refl m (omega arith))
-months_added false m h = eqb-true _ _ (all_at (sum_right false) 13 refl m (omega arith))
-
 -- the days before a month and the month's own are the days to its end
-pub month_end : (leap : Bool) (m : ℕ) → 1 ≤ m → days_of_months leap (m - 1) + days_in_month leap m ≡ days_of_months leap m
+month_end : (leap : Bool) (m : ℕ) → 1 ≤ m → days_of_months leap (m - 1) + days_in_month leap m ≡ days_of_months leap m
 unfolding days_of_months
 month_end leap zero h = omega arith
 month_end leap (suc k) h = simp unary_clauses
 
 -- the days before a year and the year's own are the days to its end
-pub year_end : (y : ℕ) → first_year ≤ y → days_of_years (y - first_year) + pick (leap_year y) 366 365 ≡ days_of_years (suc (y - first_year))
+year_end : (y : ℕ) → first_year ≤ y → days_of_years (y - first_year) + pick (leap_year y) 366 365 ≡ days_of_years (suc (y - first_year))
 unfolding days_of_years
 year_end y h = rw (add-sub_of_le h)
 
@@ -61,13 +50,8 @@ year_length false = refl
 
 -- the number of an existing date: at most that of its month's last day and of its year's, and in the range of the laws
 module _ (d : Date) (v : Exists d) where
-  within_month : days_before_month (leap_year d.year) d.month + d.day ≤ days_of_months (leap_year d.year) d.month
-  within_month =
-      omega (
-        arith,
-        months_added (leap_year d.year) d.month v.last_month,
-        month_end (leap_year d.year) d.month v.first_month,
-      )
+  within_month : days_of_months (leap_year d.year) (d.month - 1) + d.day ≤ days_of_months (leap_year d.year) d.month
+  within_month = omega (arith, month_end (leap_year d.year) d.month v.first_month)
 
   within_year : day_number d ≤ days_of_years (suc (d.year - first_year))
   unfolding day_number
@@ -97,14 +81,7 @@ module _ (d e : Date) (v : Exists d) (w : Exists e) where
   later_month : d.year ≡ e.year → d.month < e.month → day_number d < day_number e
   unfolding day_number
   later_month y h =
-      rw (← y) (
-      omega (
-        arith,
-        within_month d v,
-        months_monotone (leap_year d.year) d.month (e.month - 1) (omega arith),
-        months_added (leap_year d.year) e.month w.last_month,
-      )
-      )
+      rw (← y) (omega (arith, within_month d v, months_monotone (leap_year d.year) d.month (e.month - 1) (omega arith)))
 
   later_day : d.year ≡ e.year → d.month ≡ e.month → d.day < e.day → day_number d < day_number e
   unfolding day_number
@@ -125,7 +102,7 @@ module _ (d e : Date) (v : Exists d) (w : Exists e) where
       (λ t. let y = both_true (eqb d.year e.year) _ t in later_in_year (eqb-true _ _ y.0) y.1)
       (either_true (ltb d.year e.year) _ h)
 
-pub same_fields : {y m d z n e : ℕ} → y ≡ z → m ≡ n → d ≡ e → ymd y m d ≡ ymd z n e
+same_fields : {y m d z n e : ℕ} → y ≡ z → m ≡ n → d ≡ e → ymd y m d ≡ ymd z n e
 same_fields p q r = rw (p, q, r)
 
 -- two dates with one number: neither is later by a field, so that the fields are equal

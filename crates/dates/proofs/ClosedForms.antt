@@ -1,45 +1,81 @@
--- The closed forms of years and of months' lengths agree with the definitions; the days before a month; what an existing date says of its fields.
+-- The closed forms of the days agree with the definitions; what an existing date says of its fields.
 -- Assumes nothing.
 use mathlib.Core.Path.{◌≡◌, refl, sym}
 use mathlib.Core.Bool.{Bool, true, false}
 use Prim.Native.Nat.{ℕ, ◌+◌, ◌-◌, ◌*◌, ◌/◌, ◌%◌, ◌≤◌, ◌<◌}
-use native.Mathlib.Nat.{le_trans}
+use native.Mathlib.Nat.{le_trans, add-sub_of_le}
 use native.Mathlib.Omega.{arith}
 use lib.Dec.{eqb, leb, ltb}
-use lib.ListN.{get_or, get_or-eq_default}
-use borrow.Author.Tests.{lt-ltb, le-leb, lt-leb, ne_eqb, eqb-true, eqb-false, leb-true, leb-false, ltb-false}
+use borrow.Author.Tests.{lt-ltb, le-ltb, le-leb, lt-leb, ne_eqb, eqb-true, eqb-false, leb-true, leb-false, ltb-false}
 use Rattle.laws.specs.Choice.{both, either, pick}
 use Rattle.laws.proofs.Tests.{both_true}
 use Rattle.laws.proofs.EveryNumber.{all_at}
-use Rattle.dates.specs.Calendar.{first_year, last_year, leap_year, days_in_month, date_exists, days_of_years, common_days_before}
+use Rattle.dates.specs.Calendar.{first_year, last_year, leap_year, days_in_month, date_exists, days_of_years, days_of_months}
 use Rattle.dates.specs.declared.Date.{Date}
 
--- the days of k years: 365 for each, and a leap day for every fourth from 1992 on
+-- a closed form has the days, and a bound
+abbrev is_right : ℕ → ℕ → ℕ → Bool
+is_right n days most = both (eqb n days) (leb n most)
+
+is_right_lem : (n days most : ℕ) → is_right n days most ≡ true → (n ≡ days) × (n ≤ most)
+is_right_lem n days most e = let r = both_true (eqb n days) _ e in (eqb-true _ _ r.0, leb-true _ _ r.1)
+
+-- the days before a month of a common year: an even rise, less two from March on
+abbrev rise : ℕ → ℕ
+rise m = (m * 979 - 966) / 32
+
+abbrev january_right : ℕ → Bool
+january_right m = is_right (rise m) (days_of_months false (m - 1)) 334
+
+abbrev march_right : ℕ → Bool
+march_right m = either (leb m 2) (is_right (rise m - 2) (days_of_months false (m - 1)) 334)
+
+module _ (m : ℕ) where
+  pub before_march : m ≤ 2 → (rise m ≡ days_of_months false (m - 1)) × (rise m ≤ 334)
+  unfolding days_of_months days_in_month
+  before_march h = is_right_lem (rise m) (days_of_months false (m - 1)) 334 (all_at january_right 3 refl m (omega arith))
+
+  pub from_march : 2 < m → m ≤ 12 → (rise m - 2 ≡ days_of_months false (m - 1)) × (rise m - 2 ≤ 334)
+  unfolding days_of_months days_in_month
+  from_march h g =
+      is_right_lem (rise m - 2) (days_of_months false (m - 1)) 334 (rw (lt-leb m 2 h) at (all_at march_right 13 refl m (omega arith)))
+
+-- one day more of a leap year stands before each month from March on
+abbrev leap_right : ℕ → Bool
+leap_right m = eqb (days_of_months true (m - 1)) (days_of_months false (m - 1) + pick (both (ltb 2 m) true) 1 0)
+
+abbrev common_right : ℕ → Bool
+common_right m = eqb (days_of_months false (m - 1)) (days_of_months false (m - 1) + pick (both (ltb 2 m) false) 1 0)
+
+pub leap_day : (leap : Bool) (m : ℕ) → m ≤ 12 →
+    days_of_months leap (m - 1) ≡ days_of_months false (m - 1) + pick (both (ltb 2 m) leap) 1 0
+unfolding days_of_months days_in_month
+leap_day true m h = eqb-true _ _ (all_at leap_right 13 refl m (omega arith))
+leap_day false m h = eqb-true _ _ (all_at common_right 13 refl m (omega arith))
+
+-- the days of k years, and those with the leap day of the year that follows
 abbrev years_right : ℕ → Bool
-years_right k = eqb (k * 365 + (k + 1) / 4) (days_of_years k)
+years_right k = is_right (k * 365 + (k + 1) / 4) (days_of_years k + 0) 39813
 
-pub years_before : (y : ℕ) → first_year ≤ y → y ≤ last_year → (y - first_year) * 365 + (y - first_year + 1) / 4 ≡ days_of_years (y - first_year)
-unfolding days_of_years leap_year
-years_before y first last = eqb-true _ _ (all_at years_right 110 refl (y - first_year) (omega arith))
+abbrev leaps_right : ℕ → Bool
+leaps_right k = is_right (k * 365 + (k + 2) / 4) (days_of_years k + pick (leap_year (first_year + k)) 1 0) 39813
 
--- no days stand before a month that is none of February to December
-pub no_days_before : (m : ℕ) → (m ≤ 12 → m ≤ 1) → get_or common_days_before (m - 1) 0 ≡ 0
-no_days_before m h = go (leb m 12) refl
-  where
-    go : (b : Bool) → leb m 12 ≡ b → get_or common_days_before (m - 1) 0 ≡ 0
-    go true q = let z : m - 1 ≡ 0 = omega (arith, h (leb-true m 12 q)) in rw z
-    go false q = get_or-eq_default common_days_before 0 {n = m - 1} (omega (arith, leb-false m 12 q))
+abbrev to_month : ℕ → ℕ → ℕ
+to_month y m = days_of_years (y - first_year) + pick (both (ltb 2 m) (leap_year y)) 1 0
 
--- no month of a common year has more than 334 days before it
-abbrev few_days_before : ℕ → Bool
-few_days_before m = leb (get_or common_days_before (m - 1) 0) 334
+module _ (y m : ℕ) (first : first_year ≤ y) (last : y ≤ last_year) where
+  pub without_leap_day : m ≤ 2 →
+      ((y - first_year) * 365 + (y - first_year + 1) / 4 ≡ to_month y m) × ((y - first_year) * 365 + (y - first_year + 1) / 4 ≤ 39813)
+  unfolding days_of_years leap_year
+  without_leap_day h =
+      rw (le-ltb 2 m h) (is_right_lem _ (days_of_years (y - first_year) + 0) 39813 (all_at years_right 110 refl (y - first_year) (omega arith)))
 
-pub common_days_most : (m : ℕ) → get_or common_days_before (m - 1) 0 ≤ 334
-common_days_most m = go (leb m 12) refl
-  where
-    go : (b : Bool) → leb m 12 ≡ b → get_or common_days_before (m - 1) 0 ≤ 334
-    go true q = leb-true _ 334 (all_at few_days_before 13 refl m (omega (arith, leb-true m 12 q)))
-    go false q = omega (arith, no_days_before m (λ h. omega (arith, leb-false m 12 q)))
+  pub with_leap_day : 2 < m →
+      ((y - first_year) * 365 + (y - first_year + 2) / 4 ≡ to_month y m) × ((y - first_year) * 365 + (y - first_year + 2) / 4 ≤ 39813)
+  unfolding days_of_years leap_year
+  with_leap_day h =
+      let r = is_right_lem _ (days_of_years (y - first_year) + pick (leap_year (first_year + (y - first_year))) 1 0) 39813 (all_at leaps_right 110 refl (y - first_year) (omega arith)) in
+      rw (lt-ltb 2 m h) (rw (add-sub_of_le first) at r)
 
 pub record Exists (d : Date) : Type 0 where
   pub not_before : first_year ≤ d.year
@@ -82,7 +118,7 @@ exists d e =
 abbrev month_long : Bool → ℕ → Bool
 month_long leap m = either (leb m 0) (leb 28 (days_in_month leap m))
 
-pub month_long_lem : (leap : Bool) (m : ℕ) → 1 ≤ m → m ≤ 12 → 28 ≤ days_in_month leap m
+month_long_lem : (leap : Bool) (m : ℕ) → 1 ≤ m → m ≤ 12 → 28 ≤ days_in_month leap m
 unfolding days_in_month
 month_long_lem true m h g = leb-true 28 _ (rw (lt-leb m 0 h) at (all_at (month_long true) 13 refl m (omega arith)))
 month_long_lem false m h g = leb-true 28 _ (rw (lt-leb m 0 h) at (all_at (month_long false) 13 refl m (omega arith)))

@@ -1,4 +1,3 @@
 pub mod AtTheEdges
 pub mod ClosedForms
 pub mod CalendarLaws
-pub mod DayByDay

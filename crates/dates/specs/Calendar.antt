@@ -1,4 +1,4 @@
--- Document 01, "Dates and records", and document 02, request 2: Gregorian dates from 1990-01-01 to 2099-12-31, and their numbers.
+-- Document 01, "Dates and records": Gregorian dates from 1990-01-01 to 2099-12-31, and their numbers.
 -- Assumes nothing.
 use Rattle.std.specs.Prelude.{ℕ, zero, suc, ◌+◌, ◌-◌, ◌%◌, Bool, not, List, [], ◌∷◌, ltb, leb, eqb, get_or}
 use Rattle.laws.specs.Choice.{both, either, pick}
@@ -37,14 +37,11 @@ unfoldable pub days_of_years : ℕ → ℕ
 days_of_years zero = 0
 days_of_years (suc k) = days_of_years k + pick (leap_year (first_year + k)) 366 365
 
--- document 02, request 2: the days before each month of a common year, January first
-abbrev pub common_days_before : List ℕ
-common_days_before = 0 ∷ 31 ∷ 59 ∷ 90 ∷ 120 ∷ 151 ∷ 181 ∷ 212 ∷ 243 ∷ 273 ∷ 304 ∷ 334 ∷ []
-
--- the days of a year before a month, in a leap year one more from March on
-unfoldable pub days_before_month : Bool → ℕ → ℕ
-days_before_month leap m = get_or common_days_before (m - 1) 0 + pick (both leap (ltb 2 m)) 1 0
+-- the days of the first k months of a year
+unfoldable pub days_of_months : Bool → ℕ → ℕ
+days_of_months leap zero = 0
+days_of_months leap (suc k) = days_of_months leap k + days_in_month leap (suc k)
 
 -- the calendar day number of a date: 1990-01-01 has 1
 unfoldable pub day_number : Date → ℕ
-day_number d = days_of_years (d.year - first_year) + days_before_month (leap_year d.year) d.month + d.day
+day_number d = days_of_years (d.year - first_year) + days_of_months (leap_year d.year) (d.month - 1) + d.day

@@ -1,10 +1,12 @@
 // Calendar dates, calendar day numbers and study days (document 01, "Dates and records").
-ghost use Rattle.std.specs.Prelude.{◌≡◌, true, ◌-◌, leb, get_or};
-ghost use Rattle.laws.specs.Choice.{both};
-ghost use Rattle.dates.specs.Calendar.{leap_year, days_in_month, date_exists, common_days_before, days_before_month, day_number};
+#![tactic(auto)]
+
+ghost use Rattle.std.specs.Prelude.{◌≡◌, false, ◌+◌, ◌-◌, ◌≤◌, ltb, leb};
+ghost use Rattle.laws.specs.Choice.{both, pick};
+ghost use Rattle.dates.specs.Calendar.{first_year, last_year, leap_year, days_in_month, date_exists, days_of_years, days_of_months};
 ghost use Rattle.dates.specs.Answers.{day_number_values, day_number_of, study_day_values, study_day_of};
 
-#[derive(Drop)]
+#[derive(Clone, Copy)]
 pub struct Date {
     pub year: u16,
     pub month: u8,
@@ -12,20 +14,20 @@ pub struct Date {
 }
 
 // Calendar days counted from 1990-01-01, which is day number 1.
-#[derive(Drop)]
+#[derive(Clone, Copy)]
 pub struct DayNumber(pub u16);
 
 // Days counted from randomisation, which is day 1.
-#[derive(Drop)]
+#[derive(Clone, Copy)]
 pub struct StudyDay(pub u32);
 
-#[derive(Drop)]
+#[derive(Clone, Copy)]
 pub enum DayNumberAnswer {
     Number(DayNumber),
     NoSuchDate,
 }
 
-#[derive(Drop)]
+#[derive(Clone, Copy)]
 pub enum StudyDayAnswer {
     Day(StudyDay),
     BeforeRandomisation,
@@ -80,47 +82,26 @@ pub fn date_exists(date: Date) -> bool
         && (date.year <= LAST_YEAR && day_exists(date.year, date.month, date.day))
 }
 
-// As a printed calendar has them; 0 where there is no such month.
-fn common_days_before(month: u8) -> u32
-    ensures { result ≡ get_or common_days_before (month - 1) 0 }
+// The days before a month of a common year: an even rise, two days too high from March on.
+fn days_before_month(month: u8) -> u32
+    requires { (1 ≤ month) × (month ≤ 12) }
+    ensures { (result ≡ days_of_months false (month - 1)) × (result ≤ 334) }
 {
-    match month {
-        1 => 0,
-        2 => 31,
-        3 => 59,
-        4 => 90,
-        5 => 120,
-        6 => 151,
-        7 => 181,
-        8 => 212,
-        9 => 243,
-        10 => 273,
-        11 => 304,
-        12 => 334,
-        _ => 0,
-    }
+    let even = (month as u32 * 979 - 966) / 32;
+    if month <= 2 { even } else { even - 2 }
 }
 
-// With the leap day from March on.
-fn days_before_month(year: u16, month: u8) -> u32
-    ensures { result ≡ days_before_month (leap_year year) month }
+// The days before a year, and from March on its own leap day. Every fourth year from 1990 to 2099 is a leap year, 2000 among them.
+fn days_before_year(year: u16, month: u8) -> u32
+    requires { (first_year ≤ year) × (year ≤ last_year) }
+    ensures { (result ≡ days_of_years (year - first_year) + pick (both (ltb 2 month) (leap_year year)) 1 0) × (result ≤ 39813) }
 {
-    let common = common_days_before(month);
-    if leap_year(year) & (2 < month) {
-        common + 1
+    let years = (year - FIRST_YEAR) as u32;
+    if month <= 2 {
+        years * 365 + (years + 1) / 4
     } else {
-        common
+        years * 365 + (years + 2) / 4
     }
-}
-
-// Of a date that exists. Every fourth year from 1990 to 2099 is a leap year, 2000 among them.
-fn number_of(date: Date) -> DayNumber
-    requires { date_exists date ≡ true }
-    ensures { result.0 ≡ day_number date }
-{
-    let years = (date.year - FIRST_YEAR) as u32;
-    let months = days_before_month(date.year, date.month);
-    DayNumber((years * 365 + (years + 1) / 4 + months + date.day as u32) as u16)
 }
 
 pub fn day_number(date: Date) -> DayNumberAnswer
@@ -129,21 +110,26 @@ pub fn day_number(date: Date) -> DayNumberAnswer
     if !date_exists(date) {
         return DayNumberAnswer::NoSuchDate;
     }
-    DayNumberAnswer::Number(number_of(date))
+    let years = days_before_year(date.year, date.month);
+    let months = days_before_month(date.month);
+    DayNumberAnswer::Number(DayNumber((years + months + date.day as u32) as u16))
 }
 
 // The only way from calendar dates to study days.
 pub fn study_day(date: Date, randomisation: Date) -> StudyDayAnswer
     ensures { study_day_values result ≡ study_day_of date randomisation }
 {
-    if !(date_exists(date) && date_exists(randomisation)) {
-        return StudyDayAnswer::NoSuchDate;
-    }
-    let day = number_of(date);
-    let first = number_of(randomisation);
-    if first.0 <= day.0 {
-        StudyDayAnswer::Day(StudyDay((day.0 - first.0) as u32 + 1))
-    } else {
-        StudyDayAnswer::BeforeRandomisation
+    match day_number(date) {
+        DayNumberAnswer::NoSuchDate => StudyDayAnswer::NoSuchDate,
+        DayNumberAnswer::Number(day) => match day_number(randomisation) {
+            DayNumberAnswer::NoSuchDate => StudyDayAnswer::NoSuchDate,
+            DayNumberAnswer::Number(first) => {
+                if first.0 <= day.0 {
+                    StudyDayAnswer::Day(StudyDay((day.0 - first.0) as u32 + 1))
+                } else {
+                    StudyDayAnswer::BeforeRandomisation
+                }
+            }
+        },
     }
 }

@@ -1,6 +1,8 @@
 // Day numbers of calendar dates (document 02, request 2): both sides of each end of the range, both ends of February in four years, and the first day of each month
 // of a common year and of a leap year. The file `stdout`, to which what is printed is held, is worked out by GNU `date`: of each date the seconds that
 // `date -u -d DATE +%s` prints, less those of 1990-01-01, divided by 86,400, and 1 more; no such date where `date` refuses it, and before 1990 and after 2099.
+#![tactic(auto)]
+
 use dates::{Date, DayNumberAnswer};
 
 fn text(line: &[u8]) {

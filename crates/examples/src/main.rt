@@ -1,5 +1,6 @@
 // Histories of document 01, with sizes in tenths of a millimetre: the printed example, examples 7, 11, 13 and 14, and what stands beside them. The file `stdout`, to which what they print is
 // held, is worked out by hand from document 01.
+#![tactic(auto)]
 
 // Opening, adding and reading, with refused additions, a therapy and a missing baseline.
 fn held_subjects() {

@@ -1,7 +1,7 @@
 -- 13 of an empty file, 14 at the edges, the first refusal of calls and the values of cases, by computation; checked first, by its name.
 -- Assumes nothing.
 use mathlib.Core.Path.{refl}
-use Rattle.dates.specs.Calendar.{leap_year, days_in_month, date_exists, days_of_years, days_before_month, day_number}
+use Rattle.dates.specs.Calendar.{leap_year, days_in_month, date_exists, days_of_years, days_of_months, day_number}
 use Rattle.dates.specs.Answers.{study_day_of}
 use Rattle.codec.specs.Parts.{bad_length}
 use Rattle.response_rules.specs.SumOfDiameters.{sum_of_diameters, baseline_sum, all_measured}
@@ -26,7 +26,7 @@ unfolding verdict_of bad_length
 empty_file = record { nothing = refl }
 
 pub late_at_the_edges : LateAtTheEdges
-unfolding leap_year days_in_month date_exists days_of_years days_before_month day_number study_day_of sum_of_diameters baseline_sum all_measured all_disappeared progression_from_nadir partial_response target_answer after_visit overall_by overall_answer overall_at pfs best duration pfs_settled_by best_settled_by duration_settled_by enrolment_in_range follow_up_in_range in_range blank_subject outcome_of starts_late verdict_held
+unfolding leap_year days_in_month date_exists days_of_years days_of_months day_number study_day_of sum_of_diameters baseline_sum all_measured all_disappeared progression_from_nadir partial_response target_answer after_visit overall_by overall_answer overall_at pfs best duration pfs_settled_by best_settled_by duration_settled_by enrolment_in_range follow_up_in_range in_range blank_subject outcome_of starts_late verdict_held
 late_at_the_edges =
     record {
       before = refl;

@@ -1,5 +1,7 @@
 // A file of records judged: its refusal with the index of a record, or its outcome with the settled marks (document 01, "Change in size,
 // file and listing" and "Where a call stops", 13 and 14). That it is judged as the calls on its records are is proved here.
+#![tactic(auto)]
+
 ghost use Rattle.std.specs.Prelude.{◌≡◌};
 ghost use Rattle.file.specs.Verdict.{file_values, refused as stopped, JudgesFile};
 
@@ -10,7 +12,7 @@ mod ending; // ending.rt: behind the last record
 
 pub use ending::end_file;
 
-#[derive(Drop)]
+#[derive(Clone, Copy)]
 pub struct FileRefusal {
     // The number in document 01.
     pub number: u8,
@@ -18,7 +20,7 @@ pub struct FileRefusal {
     pub index: usize,
 }
 
-#[derive(Drop)]
+#[derive(Clone, Copy)]
 pub enum FileAnswer {
     Refused(FileRefusal),
     Accepted(OutcomeResult),

@@ -1,6 +1,8 @@
 // A history, which is a byte string of records, on standard output: replayed as calls, judged as a file, and listed. The last reading, or the judged file, is answered too,
 // with its promise. Of each history: its name; behind A the numbers of the answers of opening and adding, 0 where done; the lines P, B, D and S of the last
 // reading, or R and its number; behind F what judging the file answers; then its listing. The programs `examples` and `refusals` print by it.
+#![tactic(auto)]
+
 ghost use Rattle.file.specs.Verdict.{JudgesFile};
 ghost use Rattle.history.specs.Replay.{records_in, Replayed};
 

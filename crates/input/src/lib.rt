@@ -1,10 +1,12 @@
 // What standard input holds, to its end or past the longest file (document 01, "Change in size, file and listing"). The programs `list` and
 // `refusals` read by it.
+#![tactic(auto)]
+
 ghost use Rattle.std.specs.Prelude.{◌≡◌, ◌+◌, ◌≤◌, length};
 ghost use Rattle.std.proofs.Math.Seq.{paste};
 ghost use Rattle.input.specs.Received.{Received};
 
-#[derive(Drop)]
+#[derive(Clone, Copy)]
 pub struct Input {
     // Why reading ended: below 0 where a read failed, 0 at the end of input, 1 past the longest file.
     pub end: isize,

@@ -1,5 +1,6 @@
 // The listing program (document 01, "Change in size, file and listing"): a file from standard input, its listing to standard output. A read
 // that fails is no end of input, so that a file that was cut off is never listed as a whole one.
+#![tactic(auto)]
 
 fn print_listing(bytes: &[u8]) {
     let mut page = listing_text::blank_page();

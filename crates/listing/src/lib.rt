@@ -1,4 +1,6 @@
 // The listing of a file (document 01, "Change in size, file and listing"): judged and its visits' lines written in one pass.
+#![tactic(auto)]
+
 ghost use Rattle.std.specs.Prelude.{◌≡◌, ◌≤◌, length, take, drop, ◌++◌};
 ghost use Rattle.file.specs.Verdict.{file_values, refused};
 ghost use Rattle.listing_text.specs.Text.{longest_listing};
@@ -14,7 +16,7 @@ mod visits; // visits.rt: the line of a visit
 mod outcomes; // outcomes.rt: the lines of the outcome, and the line of a refusal
 
 // A file judged, and how many bytes the lines written so far take.
-#[derive(Drop)]
+#[derive(Clone, Copy)]
 struct JudgedLines {
     answer: FileAnswer,
     length: usize,

@@ -1,5 +1,7 @@
 // The text of a listing, byte by byte (document 01, "Change in size, file and listing"): the definitions are in specs/, and how long a listing can
 // be is proved here. A page has room for the longest one; the code that writes it is the crate `listing`.
+#![tactic(auto)]
+
 ghost use Rattle.std.specs.Prelude.{◌≡◌, length, replicate};
 ghost use Rattle.listing_text.specs.Text.{longest_listing};
 

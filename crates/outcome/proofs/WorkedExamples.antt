@@ -2,7 +2,7 @@
 -- does not follow the list is refused there.
 -- Assumes nothing.
 use mathlib.Core.Path.{refl}
-use Rattle.dates.specs.Calendar.{leap_year, days_in_month, date_exists, days_of_years, days_before_month, day_number}
+use Rattle.dates.specs.Calendar.{leap_year, days_in_month, date_exists, days_of_years, days_of_months, day_number}
 use Rattle.dates.specs.Answers.{study_day_of}
 use Rattle.records.specs.Refusals.{size_outside_limits, measured_outside_limits, not_zero_beyond_count, not_zero_unmeasured, without_disease, outside_limits, not_zero, refusals_of_read}
 use Rattle.response_rules.specs.SumOfDiameters.{sum_of_diameters, baseline_sum, all_measured}
@@ -29,7 +29,7 @@ use Rattle.outcome.specs.ReadingOutcome.{outcome_of, reading_of}
 use Rattle.outcome.specs.Examples.{FirstRefusals, ReadAtTheEdges, RepliesAtTheEdges, ValuesOfCases}
 
 pub first_refusals : FirstRefusals
-unfolding leap_year days_in_month date_exists days_of_years days_before_month day_number study_day_of size_outside_limits measured_outside_limits not_zero_beyond_count not_zero_unmeasured without_disease outside_limits not_zero refusals_of_read sum_of_diameters all_measured all_disappeared progression_from_nadir partial_response target_answer after_visit overall_by overall_answer measured_beyond fits_by enrolment_in_range follow_up_in_range in_range event_after counting_after blank_subject overall_held visit_added refusals_of_entry_held refusal_of_adding_held reading_of
+unfolding leap_year days_in_month date_exists days_of_years days_of_months day_number study_day_of size_outside_limits measured_outside_limits not_zero_beyond_count not_zero_unmeasured without_disease outside_limits not_zero refusals_of_read sum_of_diameters all_measured all_disappeared progression_from_nadir partial_response target_answer after_visit overall_by overall_answer measured_beyond fits_by enrolment_in_range follow_up_in_range in_range event_after counting_after blank_subject overall_held visit_added refusals_of_entry_held refusal_of_adding_held reading_of
 first_refusals =
     record {
       out_of_range = refl;
@@ -64,7 +64,7 @@ read_at_the_edges =
     }
 
 pub replies_at_the_edges : RepliesAtTheEdges
-unfolding leap_year days_in_month date_exists days_of_years days_before_month day_number study_day_of size_outside_limits measured_outside_limits not_zero_beyond_count not_zero_unmeasured without_disease outside_limits not_zero refusals_of_read sum_of_diameters baseline_sum all_measured all_disappeared progression_from_nadir partial_response target_answer after_visit overall_by overall_answer measured_beyond fits_by fits overall_at gap_limit early_death_limit pfs best duration settled_from pfs_settled_by best_settled_by duration_settled_by pfs_settled best_settled duration_settled refusals_of_study_record refusals_of_adding change_between change_of line_of_visit
+unfolding leap_year days_in_month date_exists days_of_years days_of_months day_number study_day_of size_outside_limits measured_outside_limits not_zero_beyond_count not_zero_unmeasured without_disease outside_limits not_zero refusals_of_read sum_of_diameters baseline_sum all_measured all_disappeared progression_from_nadir partial_response target_answer after_visit overall_by overall_answer measured_beyond fits_by fits overall_at gap_limit early_death_limit pfs best duration settled_from pfs_settled_by best_settled_by duration_settled_by pfs_settled best_settled duration_settled refusals_of_study_record refusals_of_adding change_between change_of line_of_visit
 replies_at_the_edges = record { replied = refl; tenths = refl }
 
 pub values_of_cases : ValuesOfCases

@@ -1,5 +1,7 @@
 // The outcome of a held subject with the settled marks (document 01, "Outcome", "Settled" and "Where a call stops", 12). Demand 3, over any
 // list of additions and readings, is proved here.
+#![tactic(auto)]
+
 use outcome_rules::{BestResponse, DurationAnswer, PfsResult};
 
 mod settled; // settled.rt: the settled marks
@@ -8,14 +10,14 @@ mod reading; // reading.rt: the outcome of a held subject
 pub use reading::read_outcome;
 
 // For each part of the outcome, whether no further record can change it.
-#[derive(Drop)]
+#[derive(Clone, Copy)]
 pub struct SettledMarks {
     pub pfs: bool,
     pub best: bool,
     pub duration: bool,
 }
 
-#[derive(Drop)]
+#[derive(Clone, Copy)]
 pub struct OutcomeResult {
     pub pfs: PfsResult,
     pub best: BestResponse,
@@ -23,7 +25,7 @@ pub struct OutcomeResult {
     pub settled: SettledMarks,
 }
 
-#[derive(Drop)]
+#[derive(Clone, Copy)]
 pub enum OutcomeAnswer {
     OutOfRange,
     Read(OutcomeResult),

@@ -1,7 +1,7 @@
 -- The examples are computed by the definitions. By its name this file is checked first, so that a wrong definition is refused at an example.
 -- Assumes nothing.
 use mathlib.Core.Path.{refl}
-use Rattle.dates.specs.Calendar.{leap_year, days_in_month, date_exists, days_of_years, days_before_month, day_number}
+use Rattle.dates.specs.Calendar.{leap_year, days_in_month, date_exists, days_of_years, days_of_months, day_number}
 use Rattle.dates.specs.Answers.{study_day_of}
 use Rattle.records.specs.Refusals.{size_outside_limits, measured_outside_limits, not_zero_beyond_count, not_zero_unmeasured, without_disease, outside_limits, not_zero, refusals_of_read}
 use Rattle.response_rules.specs.SumOfDiameters.{sum_of_diameters, baseline_sum, all_measured}
@@ -86,7 +86,7 @@ fields_that_pass =
     }
 
 pub on_study_days_lem : OnStudyDays
-unfolding date_exists days_in_month leap_year days_of_years days_before_month day_number study_day_of
+unfolding date_exists days_in_month leap_year days_of_years days_of_months day_number study_day_of
 on_study_days_lem =
     record {
       each_kind = refl;
@@ -97,7 +97,7 @@ pub times_ten_lem : TimesTen
 times_ten_lem = record { each_kind = refl; any_unit = refl }
 
 pub first_refusals : FirstRefusals
-unfolding refusals_of_opening refusals_of_adding refusals_of_study_record refusals_of_read date_exists days_in_month leap_year days_of_years days_before_month day_number study_day_of measured_beyond fits_by fits size_outside_limits measured_outside_limits not_zero_beyond_count not_zero_unmeasured without_disease outside_limits not_zero
+unfolding refusals_of_opening refusals_of_adding refusals_of_study_record refusals_of_read date_exists days_in_month leap_year days_of_years days_of_months day_number study_day_of measured_beyond fits_by fits size_outside_limits measured_outside_limits not_zero_beyond_count not_zero_unmeasured without_disease outside_limits not_zero
 first_refusals =
     record {
       opens = refl;
@@ -130,7 +130,7 @@ first_refusals =
     }
 
 pub replied_of_visits : RepliedOfVisits
-unfolding refusals_of_adding refusals_of_study_record refusals_of_read date_exists days_in_month leap_year days_of_years days_before_month day_number study_day_of measured_beyond fits_by fits size_outside_limits measured_outside_limits not_zero_beyond_count not_zero_unmeasured without_disease outside_limits not_zero line_of_visit overall_at sum_of_diameters baseline_sum all_measured all_disappeared progression_from_nadir partial_response target_answer after_visit overall_by overall_answer change_between change_of
+unfolding refusals_of_adding refusals_of_study_record refusals_of_read date_exists days_in_month leap_year days_of_years days_of_months day_number study_day_of measured_beyond fits_by fits size_outside_limits measured_outside_limits not_zero_beyond_count not_zero_unmeasured without_disease outside_limits not_zero line_of_visit overall_at sum_of_diameters baseline_sum all_measured all_disappeared progression_from_nadir partial_response target_answer after_visit overall_by overall_answer change_between change_of
 replied_of_visits =
     record {
       visit = refl;

@@ -9,7 +9,7 @@ use borrow.Author.Tests.{le-leb}
 use Rattle.laws.specs.Choice.{both, either, pick}
 use Rattle.laws.proofs.Tests.{never}
 use Rattle.response_rules.specs.Words.{Word, CR, PR, SD, PD, NE, NA, NN}
-use Rattle.outcome_rules.specs.Values.{Day, none, on, is_recorded, ◌orElse◌, or_day1, Pfs, PfsWord, Duration, no_duration, for_days, exists}
+use Rattle.outcome_rules.specs.Values.{Day, none, on, is_recorded, ◌or_else◌, or_day1, Pfs, PfsWord, Duration, no_duration, for_days, exists}
 use Rattle.outcome_rules.specs.Course.{Judged, judged_visit, Course, latest_day_in, death_day_in, therapy_recorded, progression, counting_closed, counting_visits}
 use Rattle.outcome_rules.specs.Pfs.{pfs}
 use Rattle.outcome_rules.specs.BestResponse.{is_cr, is_response, confirmation_days, confirms_earlier_cr, confirmed_cr, confirms_earlier_response, confirmed_response, best}

@@ -7,7 +7,7 @@ use mathlib.Core.List.{List, [], ◌∷◌}
 use Rattle.laws.specs.Choice.{both, either, pick}
 use Rattle.laws.proofs.Tests.{never, either_with_true}
 use Rattle.response_rules.specs.Words.{Word, CR, NE}
-use Rattle.outcome_rules.specs.Values.{Day, none, on, is_recorded, ◌orElse◌}
+use Rattle.outcome_rules.specs.Values.{Day, none, on, is_recorded, ◌or_else◌}
 use Rattle.outcome_rules.specs.StudyRecords.{Baseline}
 use Rattle.outcome_rules.specs.LawfulLists.{Past}
 use Rattle.outcome_rules.specs.Course.{Judged, Occurrence, judged_visit, therapy_on, death_on, Course, course, death_day_in, therapy_recorded, visits_in, first_pd, progression, counting_closed, counting_visits}

@@ -8,7 +8,7 @@ use native.Mathlib.Omega.{arith}
 use lib.Dec.{ltb}
 use borrow.Author.Tests.{leb-true, ltb-true, not-true}
 use Rattle.laws.proofs.Tests.{never, both_true}
-use Rattle.outcome_rules.specs.Values.{Day, none, on, is_recorded, ◌orElse◌}
+use Rattle.outcome_rules.specs.Values.{Day, none, on, is_recorded, ◌or_else◌}
 use Rattle.outcome_rules.specs.StudyRecords.{Baseline, StudyRecord, baseline, visit, therapy, death, day_of, all_pass}
 use Rattle.outcome_rules.specs.LawfulLists.{Past, latest_day, death_day, died, fits, lawful_next, lawful_behind}
 use Rattle.outcome_rules.specs.Course.{Occurrence, judged_visit, therapy_on, death_on, Course, judge, course, day_in, latest_day_in, death_day_in, visits_in}

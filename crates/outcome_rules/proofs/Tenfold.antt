@@ -23,7 +23,7 @@ use Rattle.response_rules.specs.VisitAnswers.{target_answer_after, overall_answe
 use Rattle.response_rules.specs.Tenfold.{tenfold_disease, tenfold_visit}
 use Rattle.response_rules.specs.declared.BaselineDisease.{BaselineDisease}
 use Rattle.response_rules.proofs.Tenfold.{sum_tenfold, tenfold_answers}
-use Rattle.outcome_rules.specs.Values.{Day, on, is_recorded, ◌orElse◌}
+use Rattle.outcome_rules.specs.Values.{Day, on, is_recorded, ◌or_else◌}
 use Rattle.outcome_rules.specs.StudyRecords.{Baseline, StudyRecord, baseline, visit, therapy, death, disease, entry_on_study_day, on_study_day, on_study_days}
 use Rattle.outcome_rules.specs.LawfulLists.{Past, latest_day, death_day, died, fits}
 use Rattle.outcome_rules.specs.Course.{visits_of, judged_visit, therapy_on, death_on, Course, overall_at, course}

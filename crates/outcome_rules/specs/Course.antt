@@ -8,7 +8,7 @@ use Rattle.response_rules.specs.OverallAnswer.{is_pd}
 use Rattle.response_rules.specs.Inputs.{Visit}
 use Rattle.response_rules.specs.VisitAnswers.{overall_answer_after}
 use Rattle.outcome_rules.specs.declared.JudgedVisit.{JudgedVisit}
-use Rattle.outcome_rules.specs.Values.{Day, none, on, is_recorded, ◌orElse◌}
+use Rattle.outcome_rules.specs.Values.{Day, none, on, is_recorded, ◌or_else◌}
 use Rattle.outcome_rules.specs.StudyRecords.{Baseline, baseline, visit, therapy, death, disease}
 use Rattle.outcome_rules.specs.LawfulLists.{Past}
 

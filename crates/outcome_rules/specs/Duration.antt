@@ -3,7 +3,7 @@
 use Rattle.std.specs.Prelude.{◌+◌, ◌-◌, List, [], ◌∷◌}
 use Rattle.laws.specs.Choice.{pick}
 use Rattle.response_rules.specs.Words.{Word}
-use Rattle.outcome_rules.specs.Values.{Day, none, on, ◌orElse◌, Pfs, Duration, no_duration, for_days}
+use Rattle.outcome_rules.specs.Values.{Day, none, on, ◌or_else◌, Pfs, Duration, no_duration, for_days}
 use Rattle.outcome_rules.specs.Course.{Judged, Course, counting_visits}
 use Rattle.outcome_rules.specs.Pfs.{pfs}
 use Rattle.outcome_rules.specs.BestResponse.{is_response, best}

@@ -7,7 +7,7 @@ use Rattle.records.specs.declared.Status.{Status}
 use Rattle.records.specs.Entries.{status_number}
 use Rattle.records.specs.Refusals.{most_targets}
 use Rattle.response_rules.specs.Inputs.{Visit}
-use Rattle.outcome_rules.specs.Values.{Day, none, on, is_recorded, ◌orElse◌}
+use Rattle.outcome_rules.specs.Values.{Day, none, on, is_recorded, ◌or_else◌}
 use Rattle.outcome_rules.specs.StudyRecords.{Baseline, StudyRecord, baseline, visit, therapy, death, day_of, from_baseline}
 
 abbrev pub Past : Type 0

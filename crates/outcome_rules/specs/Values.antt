@@ -21,10 +21,10 @@ abbrev pub is_recorded : Day → Bool
 is_recorded none = false
 is_recorded (on d) = true
 
-infixr 20 ◌orElse◌
-abbrev pub ◌orElse◌ : Day → Day → Day
-◌orElse◌ none e = e
-◌orElse◌ (on d) e = on d
+infixr 20 ◌or_else◌
+abbrev pub ◌or_else◌ : Day → Day → Day
+◌or_else◌ none e = e
+◌or_else◌ (on d) e = on d
 
 abbrev pub or_day1 : Day → ℕ
 or_day1 none = 1

@@ -1,35 +1,37 @@
 // What the outcome consists of (document 01, "Outcome"). The rules are definitions in specs/, on lists of records, with their theorems; the code that follows
 // them is `outcome_values`.
+#![tactic(auto)]
+
 use dates::StudyDay;
 use response_rules::OverallAnswer;
 
 // A study day that may be absent.
-#[derive(Drop)]
+#[derive(Clone, Copy)]
 pub enum MaybeDay {
     Absent,
     On(StudyDay),
 }
 
-#[derive(Drop)]
+#[derive(Clone, Copy)]
 pub struct JudgedVisit {
     pub day: StudyDay,
     pub answer: OverallAnswer,
 }
 
-#[derive(Drop)]
+#[derive(Clone, Copy)]
 pub enum PfsStatus {
     Event,
     Censored,
 }
 
 // Progression-free survival.
-#[derive(Drop)]
+#[derive(Clone, Copy)]
 pub struct PfsResult {
     pub status: PfsStatus,
     pub day: StudyDay,
 }
 
-#[derive(Drop)]
+#[derive(Clone, Copy)]
 pub enum BestResponse {
     CR,
     PR,
@@ -40,13 +42,13 @@ pub enum BestResponse {
 }
 
 // A duration of response, with the status of progression-free survival.
-#[derive(Drop)]
+#[derive(Clone, Copy)]
 pub struct DurationResult {
     pub status: PfsStatus,
     pub days: u64,
 }
 
-#[derive(Drop)]
+#[derive(Clone, Copy)]
 pub enum DurationAnswer {
     Absent,
     ForDays(DurationResult),

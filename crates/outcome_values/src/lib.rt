@@ -1,5 +1,7 @@
 // The parts of the outcome from plain values: progression-free survival (PFS), best response and duration (document 01, "Outcome"). The definitions are those of
 // `outcome_rules`, which take these values from lists of records.
+#![tactic(auto)]
+
 mod days; // days.rt: days apart, and a day that may be absent
 mod gap; // gap.rt: two visits missed
 mod pfs; // pfs.rt: progression-free survival

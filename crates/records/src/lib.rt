@@ -1,4 +1,6 @@
 // The record value and its own refusals, 3 to 5 (document 01, "Dates and records" and "Where a call stops").
+#![tactic(auto)]
+
 ghost use Rattle.std.specs.Prelude.{◌≡◌, false, [], ◌∷◌};
 ghost use Rattle.laws.specs.Choice.{either};
 ghost use Rattle.laws.specs.Refusals.{◌when◌, first};
@@ -12,7 +14,7 @@ use dates::Date;
 mod targets; // targets.rt: what some of the five targets breaks
 
 // The non-target status of a visit.
-#[derive(Drop)]
+#[derive(Clone, Copy)]
 pub enum Status {
     // No non-target lesions at baseline.
     NA,
@@ -24,7 +26,7 @@ pub enum Status {
     NE,
 }
 
-#[derive(Drop)]
+#[derive(Clone, Copy)]
 pub struct BaselineEntry {
     // The randomisation date.
     pub date: Date,
@@ -36,14 +38,14 @@ pub struct BaselineEntry {
     pub count: u8,
 }
 
-#[derive(Drop)]
+#[derive(Clone, Copy)]
 pub struct VisitEntry {
     pub date: Date,
     pub status: Status,
     pub newlesion: bool,
 }
 
-#[derive(Drop)]
+#[derive(Clone, Copy)]
 pub enum Entry {
     Baseline(BaselineEntry),
     Visit(VisitEntry),
@@ -52,7 +54,7 @@ pub enum Entry {
 }
 
 // A record, with the five targets' sizes in tenths of a millimetre beside the entry. A mark is 'node' in a baseline and 'measured' in a visit.
-#[derive(Drop)]
+#[derive(Clone, Copy)]
 pub struct Record {
     pub entry: Entry,
     pub sizes: [u16; 5],
@@ -60,14 +62,14 @@ pub struct Record {
 }
 
 // A record's own refusals, 3 to 5: the answers of reading, writing, opening and adding hold it.
-#[derive(Drop)]
+#[derive(Clone, Copy)]
 pub enum OwnRefusal {
     NoSuchDate,
     OutsideLimits,
     NotZero,
 }
 
-#[derive(Drop)]
+#[derive(Clone, Copy)]
 pub enum CheckAnswer {
     Passed,
     Refused(OwnRefusal),

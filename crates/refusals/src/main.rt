@@ -1,5 +1,7 @@
 // Where a call stops (document 01): each refusal, the orders in which they are judged, and the longest file. The file `stdout`, to which what is printed
 // is held, is worked out by hand from document 01.
+#![tactic(auto)]
+
 use adding::AddAnswer;
 use codec::ReadAnswer;
 use dates::StudyDay;

@@ -56,9 +56,9 @@ module _ (assessed new_lesion : Bool) (t : TargetAnswer) (s : Status) where
   missing h = rw h
 
   module _ (h : not assessed ≡ false) where
-    pub new_lesion : new_lesion ≡ true → PD ≡ overall_by assessed new_lesion (target_word t) (status_word s)
+    pub new_lesion_lem : new_lesion ≡ true → PD ≡ overall_by assessed new_lesion (target_word t) (status_word s)
     unfolding overall_by
-    new_lesion n = rw (h, n)
+    new_lesion_lem n = rw (h, n)
 
     module _ (n : new_lesion ≡ false) (r : ℕ) (re : r ≡ row_of (target_word t)) where
       pub target_pd_lem : rows ≤ r → PD ≡ overall_by assessed new_lesion (target_word t) (status_word s)

@@ -1,4 +1,6 @@
 // Visit responses and the change from baseline (document 01, "Visit responses" and "Change in size, file and listing").
+#![tactic(auto)]
+
 ghost use Rattle.response_rules.specs.Inputs.{visit_of};
 ghost use Rattle.response.specs.Judging.{JudgesBaseline, JudgesVisit};
 
@@ -11,14 +13,14 @@ mod grid; // grid.rt: the grid, and the overall answer
 mod nadir; // nadir.rt: the nadir after a visit
 mod change; // change.rt: the change from baseline
 
-#[derive(Drop)]
+#[derive(Clone, Copy)]
 pub struct BaselineAnswer {
     pub disease: BaselineDisease,
     // What is left for judging the first visit.
     pub after: Earlier,
 }
 
-#[derive(Drop)]
+#[derive(Clone, Copy)]
 pub struct VisitAnswer {
     pub target: TargetAnswer,
     pub overall: OverallAnswer,

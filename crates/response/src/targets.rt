@@ -25,6 +25,7 @@ fn has_disappeared(node: bool, size: u16) -> bool
     (size == 0) | (node & (size < NORMAL_BELOW))
 }
 
+#[tactic(auto, unfolding(response_rules::specs::TargetAnswer::all_disappeared))]
 fn all_disappeared(count: u8, nodes: [bool; 5], sizes: [u16; 5]) -> bool
     ensures { result ≡ all_disappeared new_unit count nodes sizes }
 {

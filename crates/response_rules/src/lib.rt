@@ -1,8 +1,9 @@
 // What the response rules take and answer (document 01, "Visit responses" and "Change in size, file and listing"). The rules are definitions in specs/, with
 // their laws; the code that follows them is `response`.
+#![tactic(auto)]
 
 // What a baseline leaves for judging visits.
-#[derive(Drop)]
+#[derive(Clone, Copy)]
 pub struct BaselineDisease {
     // False where the baseline is missing.
     pub assessed: bool,
@@ -13,13 +14,13 @@ pub struct BaselineDisease {
 }
 
 // What earlier visits leave for judging the next one.
-#[derive(Drop)]
+#[derive(Clone, Copy)]
 pub struct Earlier {
     pub nadir: u32,
 }
 
 // In the order of the grid's rows; PD, which has none, is last.
-#[derive(Drop)]
+#[derive(Clone, Copy)]
 pub enum TargetAnswer {
     CR,
     PR,
@@ -32,7 +33,7 @@ pub enum TargetAnswer {
 }
 
 // In the order of the grid's codes.
-#[derive(Drop)]
+#[derive(Clone, Copy)]
 pub enum OverallAnswer {
     CR,
     PR,
@@ -43,7 +44,7 @@ pub enum OverallAnswer {
 }
 
 // Tenths of a percent. A decrease is at least one tenth.
-#[derive(Drop)]
+#[derive(Clone, Copy)]
 pub enum ChangeAnswer {
     Absent,
     Increase(u64),

@@ -12,7 +12,7 @@ use Rattle.laws.proofs.Tests.{either_with_false}
 use Rattle.response_rules.specs.Words.{Word, CR, PR, SD, PD, NE, NA, NN}
 use Rattle.response_rules.specs.OverallAnswer.{is_pd, evaluable}
 use Rattle.outcome_rules.specs.declared.MaybeDay.TheVariants as M
-use Rattle.outcome_rules.specs.Values.{Day, none, on, is_recorded, ◌orElse◌, day_value, best_word}
+use Rattle.outcome_rules.specs.Values.{Day, none, on, is_recorded, ◌or_else◌, day_value, best_word}
 use Rattle.outcome_rules.specs.Course.{Judged, first_pd}
 use Rattle.outcome_rules.specs.BestResponse.{is_cr, is_response, is_stable_or_better, allowed_between_cr, stable_disease_from, confirmation_days, confirms, confirms_earlier_cr, confirmed_cr, confirms_earlier_response, confirmed_response, stable_disease, best_of}
 use Rattle.outcome_rules.specs.Duration.{first_response}

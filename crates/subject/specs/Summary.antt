@@ -5,7 +5,7 @@ use Rattle.std.specs.Prelude.{List, [], ◌∷◌}
 use Rattle.laws.specs.Choice.{pick}
 use Rattle.dates.specs.declared.Date.{Date}
 use Rattle.response_rules.specs.Nadir.{earlier_of}
-use Rattle.outcome_rules.specs.Values.{Day, none, on, is_recorded, ◌orElse◌}
+use Rattle.outcome_rules.specs.Values.{Day, none, on, is_recorded, ◌or_else◌}
 use Rattle.outcome_rules.specs.StudyRecords.{Baseline, disease}
 use Rattle.outcome_rules.specs.LawfulLists.{Past, latest_day, death_day}
 use Rattle.outcome_rules.specs.Course.{visits_of, Judged, course, therapy_recorded, visits_in, first_pd, counting_visits}

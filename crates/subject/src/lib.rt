@@ -1,5 +1,7 @@
 // What is held of one subject between calls: opened with a baseline, after one visit more, and whether it is in range (document 01, "Outcome" and "Where a
 // call stops", 1 to 5, 7 and 12). That what is held follows the list of the records is proved here.
+#![tactic(auto)]
+
 use dates::{Date, StudyDay};
 use outcome_rules::{BestResponse, MaybeDay};
 use records::OwnRefusal;
@@ -15,7 +17,7 @@ pub use range::{enrolment_in_range, followup_in_range};
 pub use visits::{counting_after, event_after};
 
 // What progression-free survival is read from, beside the day of death.
-#[derive(Drop)]
+#[derive(Clone, Copy)]
 pub struct EventDays {
     pub progression: MaybeDay,
     // The last visit recorded before the event, evaluable or not, or day 1.
@@ -25,7 +27,7 @@ pub struct EventDays {
 }
 
 // What the counting visits show.
-#[derive(Drop)]
+#[derive(Clone, Copy)]
 pub struct CountingVisits {
     // The first CR or PR.
     pub firstresponse: MaybeDay,
@@ -35,7 +37,7 @@ pub struct CountingVisits {
 }
 
 // What an opening makes and no addition moves.
-#[derive(Drop)]
+#[derive(Clone, Copy)]
 pub struct Enrolment {
     pub randomisation: Date,
     // Has non-target lesions.
@@ -44,7 +46,7 @@ pub struct Enrolment {
 }
 
 // What additions move.
-#[derive(Drop)]
+#[derive(Clone, Copy)]
 pub struct FollowUp {
     pub earlier: Earlier,
     // The day of the last record, or day 1.
@@ -55,13 +57,13 @@ pub struct FollowUp {
     pub counting: CountingVisits,
 }
 
-#[derive(Drop)]
+#[derive(Clone, Copy)]
 pub struct Subject {
     pub enrolment: Enrolment,
     pub followup: FollowUp,
 }
 
-#[derive(Drop)]
+#[derive(Clone, Copy)]
 pub enum OpenAnswer {
     Done,
     // This and the next from bytes alone.
@@ -72,7 +74,7 @@ pub enum OpenAnswer {
 }
 
 // The subject opened; beside a refusal one fixed blank, which adding and reading refuse.
-#[derive(Drop)]
+#[derive(Clone, Copy)]
 pub struct OpenResult {
     pub subject: Subject,
     pub answer: OpenAnswer,

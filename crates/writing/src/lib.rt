@@ -1,5 +1,7 @@
 // A record as 13 bytes, written into any lent output (document 01, "Where a call stops", 3 to 6, and document 02, request 1). That reading and writing undo
 // each other is proved here.
+#![tactic(auto)]
+
 ghost use Rattle.writing.specs.Writing.{Writes};
 
 use codec::RECORD_LENGTH;
@@ -7,7 +9,7 @@ use records::{CheckAnswer, OwnRefusal, Record};
 
 mod encode; // encode.rt: a record that no refusal meets to bytes
 
-#[derive(Drop)]
+#[derive(Clone, Copy)]
 pub enum WriteAnswer {
     Done,
     Refused(OwnRefusal),

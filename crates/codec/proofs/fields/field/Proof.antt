@@ -1,9 +1,0 @@
--- `codec::fields::field` meets its contract.
--- Assumes nothing.
-use Rattle.records.specs.Forms.{new_form}
-use borrow.Author.Rules.{rules}
-use Rattle.codec.proofs.fields.field.Statement.{statement}
-use Rattle.codec.proofs.fields.field.Tie as tie
-
-pub field_spec : {M : Type 1} → statement M
-field_spec = tie.close (tie.spec (λ c κs. search rules) (λ c. c.bits_at.ensures new_form c.before.before.requires.0))

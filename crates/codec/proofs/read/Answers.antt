@@ -1,0 +1,15 @@
+-- `codec::read` meets its contract.
+-- Assumes nothing.
+use native.Mathlib.Omega.{arith}
+use borrow.Author.Rules.{rules}
+use Rattle.codec.proofs.Returns.{reads, unchanged, reads_length, reads_no_kind, reads_judged}
+use Rattle.codec.proofs.read.Goals as goal
+
+pub returns-then-s-ne-RECORD_LENGTH : goal.returns-then-s-ne-RECORD_LENGTH
+returns-then-s-ne-RECORD_LENGTH c = reads _ _ (λ k. omega (arith, c.shared_slice_known-1.given k)) (reads_length unchanged _ _ c.if-s-ne-RECORD_LENGTH.true c.refused.ensures)
+
+pub returns-then-not-is_kind : goal.returns-then-not-is_kind
+returns-then-not-is_kind c = reads _ _ (λ k. omega (arith, c.shared_slice_known-1.given k)) (reads_no_kind unchanged _ _ c.if-s-ne-RECORD_LENGTH.false _ c.field-kind.ensures _ c.is_kind.ensures c.if-not-is_kind.true-raw c.refused-then-not-is_kind.ensures)
+
+pub returns : goal.returns
+returns c = reads _ _ (λ k. omega (arith, c.shared_slice_known-1.given k)) (reads_judged unchanged _ _ c.if-s-ne-RECORD_LENGTH.false _ c.field-kind.ensures _ c.is_kind.ensures c.if-not-is_kind.false-raw _ c.raw_in.ensures c.judged.ensures)

@@ -1,0 +1,7 @@
+-- `response::judge_baseline` meets its contract.
+-- Assumes nothing.
+use borrow.Author.Rules.{rules}
+use Rattle.response.proofs.judge_baseline.Goals as goal
+
+pub returns : goal.returns
+returns c = search c.baseline_sum-sum.ensures
