@@ -1,0 +1,8 @@
+-- `adding::dating::dated` meets its contract.
+-- Assumes nothing.
+use borrow.Author.Rules.{rules}
+use Rattle.adding.proofs.AddingAnswers.{value_dated}
+use Rattle.adding.proofs.dating.dated.Goals as goal
+
+pub returns : goal.returns
+returns c = search value_dated

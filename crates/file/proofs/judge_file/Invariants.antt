@@ -1,0 +1,20 @@
+-- `file::judge_file` meets its contract: the records before index k are taken, and the verdict is that of the rest behind them.
+-- Assumes nothing.
+use mathlib.Core.Path.{◌≡◌, refl, sym, ◌∙◌}
+use Prim.Native.Nat.{◌-◌, ◌/◌, ◌≤◌}
+use borrow.Author.Rules.{rules}
+use native.Mathlib.Omega.{arith}
+use lib.ListN.{length}
+use Rattle.codec.specs.Bytes.{record_length}
+use Rattle.codec.specs.Parts.{most_bytes}
+use Rattle.codec.proofs.PartsJoined.{fair_length}
+use Rattle.file.proofs.TurnsOfLoop.{bad, first_refused, Standing, first_standing, turn_refused, turn, ended}
+use Rattle.records.specs.Forms.{new_form}
+use Rattle.file.proofs.judge_file.Given as goal
+
+abbrev pub invariant-loop-k : goal.invariant-loop-k
+invariant-loop-k l =
+    (1 ≤ l.k) × (l.k ≤ l.count) × (l.count ≡ length l.bytes / record_length) × (length l.bytes ≤ most_bytes new_form) × Standing l.bytes l.subject l.k
+
+abbrev pub decreases-loop-k : goal.decreases-loop-k
+decreases-loop-k l = l.count - l.k
