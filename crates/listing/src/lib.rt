@@ -76,7 +76,7 @@ fn copy(from: &[u8], page: &mut [u8], n: usize)
     requires { (n ≤ length from.now) × (n ≤ length page.old) }
     ensures { page.new ≡ take n from.now ++ drop n page.old }
 {
-    bytes::copy(&from[..n], page);
+    page[..n].copy_from_slice(&from[..n]);
 }
 
 // The page has room for the longest listing, so that none is cut short. Where a file is refused behind a visit, the page is restored first.
