@@ -3,7 +3,8 @@
 use mathlib.Core.Path.{refl}
 use Rattle.dates.specs.Calendar.{leap_year, days_in_month, date_exists, days_of_years, days_of_months, day_number}
 use Rattle.dates.specs.Answers.{day_number_of, study_day_of}
-use Rattle.dates.specs.Examples.{CalendarEdges, StudyDays, ValuesOfCases}
+use Rattle.dates.specs.DayByDay.{day_before, days_before_month, number_by_cases}
+use Rattle.dates.specs.Examples.{CalendarEdges, DaysBefore, StudyDays, ValuesOfCases}
 
 pub calendar_edges : CalendarEdges
 unfolding day_number_of date_exists day_number days_of_years days_of_months days_in_month leap_year
@@ -22,6 +23,10 @@ calendar_edges =
       day_after = refl;
       february30 = refl;
       no_leap_day = refl;
+      ends1999 = refl;
+      ends2000 = refl;
+      ends2004 = refl;
+      ends2099 = refl;
       year1990 = refl;
       year1992 = refl;
       next_year = refl;
@@ -30,6 +35,21 @@ calendar_edges =
       last30 = refl;
       last31 = refl;
       last32 = refl;
+    }
+
+pub days_before : DaysBefore
+unfolding day_before number_by_cases days_of_years days_before_month days_in_month leap_year
+days_before =
+    record {
+      first = refl;
+      in_month = refl;
+      second = refl;
+      february = refl;
+      march = refl;
+      leap_march = refl;
+      may = refl;
+      new_year = refl;
+      by_cases = refl;
     }
 
 pub study_days : StudyDays

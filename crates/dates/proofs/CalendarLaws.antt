@@ -33,13 +33,13 @@ unfolding days_of_months
 months_monotone leap = monotone (days_of_months leap) λ k. omega arith
 
 -- the days before a month and the month's own are the days to its end
-month_end : (leap : Bool) (m : ℕ) → 1 ≤ m → days_of_months leap (m - 1) + days_in_month leap m ≡ days_of_months leap m
+pub month_end : (leap : Bool) (m : ℕ) → 1 ≤ m → days_of_months leap (m - 1) + days_in_month leap m ≡ days_of_months leap m
 unfolding days_of_months
 month_end leap zero h = omega arith
 month_end leap (suc k) h = simp unary_clauses
 
 -- the days before a year and the year's own are the days to its end
-year_end : (y : ℕ) → first_year ≤ y → days_of_years (y - first_year) + pick (leap_year y) 366 365 ≡ days_of_years (suc (y - first_year))
+pub year_end : (y : ℕ) → first_year ≤ y → days_of_years (y - first_year) + pick (leap_year y) 366 365 ≡ days_of_years (suc (y - first_year))
 unfolding days_of_years
 year_end y h = rw (add-sub_of_le h)
 
@@ -102,7 +102,7 @@ module _ (d e : Date) (v : Exists d) (w : Exists e) where
       (λ t. let y = both_true (eqb d.year e.year) _ t in later_in_year (eqb-true _ _ y.0) y.1)
       (either_true (ltb d.year e.year) _ h)
 
-same_fields : {y m d z n e : ℕ} → y ≡ z → m ≡ n → d ≡ e → ymd y m d ≡ ymd z n e
+pub same_fields : {y m d z n e : ℕ} → y ≡ z → m ≡ n → d ≡ e → ymd y m d ≡ ymd z n e
 same_fields p q r = rw (p, q, r)
 
 -- two dates with one number: neither is later by a field, so that the fields are equal

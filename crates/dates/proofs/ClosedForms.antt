@@ -118,7 +118,7 @@ exists d e =
 abbrev month_long : Bool → ℕ → Bool
 month_long leap m = either (leb m 0) (leb 28 (days_in_month leap m))
 
-month_long_lem : (leap : Bool) (m : ℕ) → 1 ≤ m → m ≤ 12 → 28 ≤ days_in_month leap m
+pub month_long_lem : (leap : Bool) (m : ℕ) → 1 ≤ m → m ≤ 12 → 28 ≤ days_in_month leap m
 unfolding days_in_month
 month_long_lem true m h g = leb-true 28 _ (rw (lt-leb m 0 h) at (all_at (month_long true) 13 refl m (omega arith)))
 month_long_lem false m h g = leb-true 28 _ (rw (lt-leb m 0 h) at (all_at (month_long false) 13 refl m (omega arith)))

@@ -1,3 +1,4 @@
 pub mod AtTheEdges
 pub mod ClosedForms
 pub mod CalendarLaws
+pub mod DayByDay

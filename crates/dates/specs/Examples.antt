@@ -1,10 +1,11 @@
--- Document 01, "Dates and records": the edges of the range, leap days, each month, and study days; the values of the declared cases. Proved in
--- proofs/AtTheEdges.antt.
+-- Document 01, "Dates and records", and document 02, request 2: the edges of the range, leap days, each month, the day before, and study days; the values of the
+-- declared cases. Proved in proofs/AtTheEdges.antt.
 -- Assumes nothing.
 use Rattle.std.specs.Prelude.{◌≡◌, true, false, List, [], ◌∷◌, map, ℕ}
 use Rattle.dates.specs.Calendar.{last_day_number, leap_year, date_exists, day_number}
 use Rattle.dates.specs.Answers.{Counted, day_number_values, study_day_values, day_number_of, study_day_of}
 use Rattle.dates.specs.Laws.{ymd}
+use Rattle.dates.specs.DayByDay.{first_date, day_before, number_by_cases}
 use Rattle.dates.specs.declared.DayNumberAnswer.TheVariants as N
 use Rattle.dates.specs.declared.StudyDayAnswer.TheVariants as S
 
@@ -39,6 +40,11 @@ pub record CalendarEdges : Type 0 where
   pub day_after : day_number_of (ymd 2000 3 1) ≡ on 3713
   pub february30 : day_number_of (ymd 2000 2 30) ≡ no_such_date
   pub no_leap_day : day_number_of (ymd 2023 2 29) ≡ no_such_date
+  -- both ends of February in common years and leap years
+  pub ends1999 : map day_number (ymd 1999 1 31 ∷ ymd 1999 2 1 ∷ ymd 1999 2 28 ∷ ymd 1999 3 1 ∷ []) ≡ 3318 ∷ 3319 ∷ 3346 ∷ 3347 ∷ []
+  pub ends2000 : map day_number (ymd 2000 1 31 ∷ ymd 2000 2 1 ∷ ymd 2000 2 29 ∷ ymd 2000 3 1 ∷ []) ≡ 3683 ∷ 3684 ∷ 3712 ∷ 3713 ∷ []
+  pub ends2004 : map day_number (ymd 2004 1 31 ∷ ymd 2004 2 1 ∷ ymd 2004 2 29 ∷ ymd 2004 3 1 ∷ []) ≡ 5144 ∷ 5145 ∷ 5173 ∷ 5174 ∷ []
+  pub ends2099 : map day_number (ymd 2099 1 31 ∷ ymd 2099 2 1 ∷ ymd 2099 2 28 ∷ ymd 2099 3 1 ∷ []) ≡ 39843 ∷ 39844 ∷ 39871 ∷ 39872 ∷ []
   -- the last day of a common year and of a leap year, and the day after
   pub year1990 : day_number_of (ymd 1990 12 31) ≡ on 365
   pub year1992 : day_number_of (ymd 1992 12 31) ≡ on 1096
@@ -54,6 +60,19 @@ pub record CalendarEdges : Type 0 where
       ≡ true ∷ false ∷ true ∷ false ∷ true ∷ false ∷ true ∷ true ∷ false ∷ true ∷ false ∷ true ∷ []
   pub last32 : map (λ (m : ℕ). date_exists (ymd 1990 m 32)) months
       ≡ false ∷ false ∷ false ∷ false ∷ false ∷ false ∷ false ∷ false ∷ false ∷ false ∷ false ∷ false ∷ []
+
+-- the first date; the day before, in a month, across the ends of months and across a year; and the number by the cases of the months
+pub record DaysBefore : Type 0 where
+  pub first : first_date ≡ ymd 1990 1 1
+  pub in_month : day_before (ymd 2023 3 31) ≡ ymd 2023 3 30
+  pub second : day_before (ymd 2023 1 2) ≡ ymd 2023 1 1
+  pub february : day_before (ymd 2023 2 1) ≡ ymd 2023 1 31
+  pub march : day_before (ymd 2023 3 1) ≡ ymd 2023 2 28
+  pub leap_march : day_before (ymd 2024 3 1) ≡ ymd 2024 2 29
+  pub may : day_before (ymd 2023 5 1) ≡ ymd 2023 4 30
+  pub new_year : day_before (ymd 2000 1 1) ≡ ymd 1999 12 31
+  pub by_cases : map number_by_cases (ymd 1990 1 1 ∷ ymd 1990 12 31 ∷ ymd 1992 2 29 ∷ ymd 1992 12 31 ∷ ymd 2000 3 1 ∷ [])
+      ≡ 1 ∷ 365 ∷ 790 ∷ 1096 ∷ 3713 ∷ []
 
 -- study days count from randomisation (day 1)
 pub record StudyDays : Type 0 where

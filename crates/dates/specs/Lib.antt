@@ -1,4 +1,5 @@
 pub mod Calendar
 pub mod Answers
 pub mod Laws
+pub mod DayByDay
 pub mod Examples
