@@ -6,12 +6,14 @@
 use converter::ConvertAnswer;
 use file::FileRefusal;
 
+const STANDARD_OUTPUT: i32 = 1;
+
 fn text(line: &[u8]) {
-    io::write_all(libc::STDOUT_FILENO, line);
+    io::write_all(STANDARD_OUTPUT, line);
 }
 
 fn number(n: u64) {
-    io::print_decimal(libc::STDOUT_FILENO, n);
+    io::print_decimal(STANDARD_OUTPUT, n);
 }
 
 fn refused(r: FileRefusal) {
@@ -203,18 +205,18 @@ fn longest(bytes: &[u8]) {
 
 // The longest old file is standard input: randomisation on 1990-01-01 with targets 40 and node 20 and non-target disease, and 3,999 visits, on days 10,000 to
 // 13,997 and 40,177, all (0, 0) and NN.
-fn longest_file() {
+fn longest_file(rt: &HostRuntime) {
     let mut bytes = io::large_buffer();
-    let read = input::read_input(&mut bytes);
+    let read = input::read_input(&mut rt.stdin(), &mut bytes);
     longest(&bytes[..read.count]);
 }
 
 // Sizes are given in millimetres.
-fn main() {
+fn main(rt: HostRuntime) {
     printed_example();
     own_refusals();
     later_refusals();
     lengths();
     outputs();
-    longest_file();
+    longest_file(&rt);
 }

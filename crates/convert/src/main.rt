@@ -5,18 +5,22 @@
 use converter::ConvertAnswer;
 use file::FileRefusal;
 
+const STANDARD_OUTPUT: i32 = 1;
+
+const STANDARD_ERROR: i32 = 2;
+
 fn print_refusal(r: FileRefusal) {
-    io::write_all(libc::STDERR_FILENO, b"R ");
-    io::print_decimal(libc::STDERR_FILENO, r.number as u64);
-    io::write_all(libc::STDERR_FILENO, b" ");
-    io::print_decimal(libc::STDERR_FILENO, r.index as u64);
-    io::write_all(libc::STDERR_FILENO, b"\n");
+    io::write_all(STANDARD_ERROR, b"R ");
+    io::print_decimal(STANDARD_ERROR, r.number as u64);
+    io::write_all(STANDARD_ERROR, b" ");
+    io::print_decimal(STANDARD_ERROR, r.index as u64);
+    io::write_all(STANDARD_ERROR, b"\n");
 }
 
 fn print_file(bytes: &[u8]) {
-    if !io::write_all(libc::STDOUT_FILENO, bytes) {
+    if !io::write_all(STANDARD_OUTPUT, bytes) {
         io::write_all(
-            libc::STDERR_FILENO,
+            STANDARD_ERROR,
             b"convert: standard output cannot be written\n",
         );
     }
@@ -30,12 +34,12 @@ fn print_converted(old: &[u8]) {
     }
 }
 
-fn main() {
+fn main(rt: HostRuntime) {
     let mut bytes = io::large_buffer();
-    let read = input::read_input(&mut bytes);
+    let read = input::read_input(&mut rt.stdin(), &mut bytes);
     if read.end < 0 {
         io::write_all(
-            libc::STDERR_FILENO,
+            STANDARD_ERROR,
             b"convert: standard input cannot be read\n",
         );
         return;

@@ -5,12 +5,14 @@
 
 use dates::{Date, DayNumberAnswer};
 
+const STANDARD_OUTPUT: i32 = 1;
+
 fn text(line: &[u8]) {
-    io::write_all(libc::STDOUT_FILENO, line);
+    io::write_all(STANDARD_OUTPUT, line);
 }
 
 fn number(n: u64) {
-    io::print_decimal(libc::STDOUT_FILENO, n);
+    io::print_decimal(STANDARD_OUTPUT, n);
 }
 
 // Behind a hyphen.

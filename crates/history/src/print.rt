@@ -5,12 +5,14 @@ use outcome::{OutcomeAnswer, OutcomeResult};
 use outcome_rules::{BestResponse, DurationAnswer, PfsStatus};
 use subject::OpenAnswer;
 
+const STANDARD_OUTPUT: i32 = 1;
+
 pub(crate) fn text(line: &[u8]) {
-    io::write_all(libc::STDOUT_FILENO, line);
+    io::write_all(STANDARD_OUTPUT, line);
 }
 
 pub(crate) fn number(n: u64) {
-    io::print_decimal(libc::STDOUT_FILENO, n);
+    io::print_decimal(STANDARD_OUTPUT, n);
 }
 
 // Behind an A, which starts the numbers of a history.

@@ -6,6 +6,8 @@ ghost use Rattle.std.specs.Prelude.{◌≡◌, ◌+◌, ◌≤◌, length};
 ghost use Rattle.std.proofs.Math.Seq.{paste};
 ghost use Rattle.input.specs.Received.{Received};
 
+use std::io::Read;
+
 #[derive(Clone, Copy)]
 pub struct Input {
     // Why reading ended: below 0 where a read failed, 0 at the end of input, 1 past the longest file.
@@ -18,11 +20,11 @@ fn store(chunk: &[u8], n: usize, bytes: &mut [u8], at: usize)
     requires { (n ≤ length chunk.now) × (at + n ≤ length bytes.old) }
     ensures { bytes.new ≡ paste bytes.old at chunk.now n }
 {
-    bytes::copy(&chunk[..n], &mut bytes[at..]);
+    bytes[at..at + n].copy_from_slice(&chunk[..n]);
 }
 
 // By chunks, since a read into a part of a lent slice is not covered by the kit's proofs. There is room for 52,000 bytes and a chunk of 4,096.
-fn read_into(bytes: &mut [u8]) -> Input
+fn read_into<R: Read>(reader: &mut R, bytes: &mut [u8]) -> Input
     requires { length bytes.old ≡ 65536 }
     ensures { Received bytes.old result bytes.new }
 {
@@ -31,11 +33,18 @@ fn read_into(bytes: &mut [u8]) -> Input
     let mut count: usize = 0;
     // One byte more than a file may have is enough to refuse it.
     while count <= codec::MOST_BYTES {
-        let got = libc::read(libc::STDIN_FILENO, chunk);
-        let n = io::count(got, chunk);
+        let n = match reader.read(chunk) {
+            Ok(n) => n,
+            Err(_) => {
+                return Input {
+                    end: -1,
+                    count: count,
+                };
+            }
+        };
         if n == 0 {
             return Input {
-                end: got,
+                end: 0,
                 count: count,
             };
         }
@@ -48,9 +57,9 @@ fn read_into(bytes: &mut [u8]) -> Input
     }
 }
 
-// An endless input ends too, and a read that fails is no end of input.
-pub fn read_input(bytes: &mut [u8; 65536]) -> Input
+// Of the reader, as standard input. An endless input ends too, and a read that fails is no end of input.
+pub fn read_input<R: Read>(reader: &mut R, bytes: &mut [u8; 65536]) -> Input
     ensures { Received bytes.old result bytes.new }
 {
-    read_into(bytes)
+    read_into(reader, bytes)
 }

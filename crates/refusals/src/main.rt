@@ -11,15 +11,17 @@ use records::{OwnRefusal, Record};
 use subject::{CountingVisits, EventDays, FollowUp, OpenAnswer, Subject};
 use writing::WriteAnswer;
 
+const STANDARD_OUTPUT: i32 = 1;
+
 fn text(line: &[u8]) {
-    io::write_all(libc::STDOUT_FILENO, line);
+    io::write_all(STANDARD_OUTPUT, line);
 }
 
 fn stopped(refusal: FileRefusal) {
     text(b"F R ");
-    io::print_decimal(libc::STDOUT_FILENO, refusal.number as u64);
+    io::print_decimal(STANDARD_OUTPUT, refusal.number as u64);
     text(b" ");
-    io::print_decimal(libc::STDOUT_FILENO, refusal.index as u64);
+    io::print_decimal(STANDARD_OUTPUT, refusal.index as u64);
     text(b"\n");
 }
 
@@ -126,12 +128,12 @@ fn lengths() {
 }
 
 fn print_own(refusal: OwnRefusal) {
-    io::print_decimal(libc::STDOUT_FILENO, records::own_number(refusal) as u64);
+    io::print_decimal(STANDARD_OUTPUT, records::own_number(refusal) as u64);
     text(b"\n");
 }
 
 fn print_read(answer: ReadAnswer) {
-    io::print_decimal(libc::STDOUT_FILENO, codec::read_number(answer) as u64);
+    io::print_decimal(STANDARD_OUTPUT, codec::read_number(answer) as u64);
     text(b"\n");
 }
 
@@ -145,12 +147,12 @@ fn print_written(answer: WriteAnswer) {
 
 fn print_opened(answer: OpenAnswer) {
     text(b"A ");
-    io::print_decimal(libc::STDOUT_FILENO, subject::open_number(answer) as u64);
+    io::print_decimal(STANDARD_OUTPUT, subject::open_number(answer) as u64);
 }
 
 fn print_added(answer: AddAnswer) {
     text(b" ");
-    io::print_decimal(libc::STDOUT_FILENO, adding::add_number(answer) as u64);
+    io::print_decimal(STANDARD_OUTPUT, adding::add_number(answer) as u64);
 }
 
 // 1 and 6 meet no file.
@@ -248,14 +250,14 @@ fn longest(bytes: &[u8]) {
 
 // The longest file is standard input: randomisation on 1990-01-01 with targets 40 and node 20 and non-target disease, and 3,999 visits, on
 // days 10,000 to 13,997 and 40,177, all (0, 0) and NN. It is read in many chunks.
-fn longest_file() {
+fn longest_file(rt: &HostRuntime) {
     let mut bytes = io::large_buffer();
-    let read = input::read_input(&mut bytes);
+    let read = input::read_input(&mut rt.stdin(), &mut bytes);
     longest(&bytes[..read.count]);
 }
 
 // Randomisation is on 2020-01-01 in each history but the longest. Sizes are given in millimetres.
-fn main() {
+fn main(rt: HostRuntime) {
     own_refusals_of_files();
     baseline_refusals();
     later_refusals();
@@ -263,5 +265,5 @@ fn main() {
     bytes_of_one();
     own_refusals();
     late_response();
-    longest_file();
+    longest_file(&rt);
 }

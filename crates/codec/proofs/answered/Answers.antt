@@ -1,6 +1,5 @@
 -- `codec::answered` meets its contract: `search` finds what was answered.
 -- Assumes nothing.
-use borrow.Author.Rules.{rules}
 use Rattle.codec.proofs.Returns.{judged_passed, judged_refused}
 use Rattle.codec.proofs.answered.Goals as goal
 

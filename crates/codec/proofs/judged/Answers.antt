@@ -1,7 +1,6 @@
 -- `codec::judged` meets its contract.
 -- Assumes nothing.
 use mathlib.Core.Path.{refl}
-use borrow.Author.Rules.{rules}
 use Rattle.codec.proofs.judged.Goals as goal
 
 pub returns : goal.returns

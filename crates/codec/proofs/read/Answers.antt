@@ -1,7 +1,6 @@
 -- `codec::read` meets its contract.
 -- Assumes nothing.
 use native.Mathlib.Omega.{arith}
-use borrow.Author.Rules.{rules}
 use Rattle.codec.proofs.Returns.{reads, unchanged, reads_length, reads_no_kind, reads_judged}
 use Rattle.codec.proofs.read.Goals as goal
 

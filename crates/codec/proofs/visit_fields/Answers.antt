@@ -1,7 +1,6 @@
 -- `codec::visit_fields` meets its contract.
 -- Assumes nothing.
 use native.Mathlib.Omega.{arith}
-use borrow.Author.Rules.{rules}
 use Rattle.codec.proofs.Returns.{fields_of_none, fields_read}
 use Rattle.codec.proofs.visit_fields.Goals as goal
 

@@ -1,6 +1,5 @@
 -- `dates::date_exists` meets its contract: at each return the tests that led there decide the definition's.
 -- Assumes nothing.
-use borrow.Author.Rules.{rules}
 use Rattle.laws.proofs.Tests.{tests}
 use Rattle.dates.specs.Calendar.{date_exists}
 use Rattle.dates.proofs.date_exists.Goals as goal

@@ -1,6 +1,5 @@
 -- `dates::day_exists` meets its contract: an early day is in every month, and any other is compared with its month's days.
 -- Assumes nothing.
-use borrow.Author.Rules.{rules}
 use Rattle.laws.proofs.Tests.{tests}
 use Rattle.dates.proofs.ClosedForms.{early_day}
 use Rattle.dates.proofs.day_exists.Goals as goal

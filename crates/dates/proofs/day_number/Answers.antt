@@ -5,7 +5,6 @@ use mathlib.Core.Bool.{Bool, not, true, false}
 use Prim.Native.Nat.{ℕ, ◌+◌, ◌-◌, ◌≤◌}
 use native.Mathlib.Omega.{arith}
 use lib.Dec.{ltb}
-use borrow.Author.Rules.{rules}
 use borrow.Author.Tests.{not-true, not-false}
 use Rattle.laws.specs.Choice.{both, pick}
 use Rattle.dates.specs.Calendar.{first_year, last_year, leap_year, date_exists, days_of_years, days_of_months, day_number}

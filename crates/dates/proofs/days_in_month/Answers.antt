@@ -2,7 +2,6 @@
 -- Assumes nothing.
 use mathlib.Core.Path.{sym, ◌∙◌}
 use native.Mathlib.Omega.{arith}
-use borrow.Author.Rules.{rules}
 use Rattle.laws.proofs.Tests.{tests}
 use Rattle.dates.proofs.ClosedForms.{zero_month, month_past, february, other_month_lem}
 use Rattle.dates.proofs.days_in_month.Goals as goal

@@ -1,6 +1,5 @@
 -- `records::check_fields` meets its contract: each kind of record has its own tests.
 -- Assumes nothing.
-use borrow.Author.Rules.{rules}
 use Rattle.records.specs.Refusals.{outside_limits, not_zero}
 use Rattle.records.proofs.Returns.{visit_checked}
 use Rattle.records.proofs.check_fields.Goals as goal

@@ -1,6 +1,5 @@
 -- `records::check_read` meets its contract: `search` finds what the tests said.
 -- Assumes nothing.
-use borrow.Author.Rules.{rules}
 use Rattle.records.proofs.Returns.{no_date, no_status, by_fields}
 use Rattle.records.proofs.check_read.Goals as goal
 

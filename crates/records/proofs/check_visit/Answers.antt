@@ -1,6 +1,5 @@
 -- `records::check_visit` meets its contract: `search` finds what the tests said.
 -- Assumes nothing.
-use borrow.Author.Rules.{rules}
 use Rattle.records.proofs.Returns.{visit_refusal}
 use Rattle.records.proofs.check_visit.Goals as goal
 

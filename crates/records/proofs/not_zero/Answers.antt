@@ -2,7 +2,6 @@
 -- Assumes nothing.
 use Rattle.laws.proofs.Tests.{tests}
 use Rattle.records.specs.Refusals.{not_zero}
-use borrow.Author.Rules.{rules}
 use Rattle.records.proofs.not_zero.Goals as goal
 
 -- a count that passed its test is 0: stated first, since a count passed over is wrong here

@@ -2,7 +2,6 @@
 -- Assumes nothing.
 use Rattle.laws.proofs.Tests.{tests}
 use Rattle.records.specs.Refusals.{outside_limits, without_disease}
-use borrow.Author.Rules.{rules}
 use Rattle.records.proofs.outside_limits.Goals as goal
 
 -- a count that passed its test is at most the most: stated first, since a count too many is wrong here

@@ -1,6 +1,5 @@
 -- `response::judge_baseline` meets its contract.
 -- Assumes nothing.
-use borrow.Author.Rules.{rules}
 use Rattle.response.proofs.judge_baseline.Goals as goal
 
 pub returns : goal.returns

@@ -2,7 +2,6 @@
 -- Assumes nothing.
 use mathlib.Core.Path.{refl}
 use Rattle.response_rules.specs.VisitAnswers.{overall_answer}
-use borrow.Author.Rules.{rules}
 use Rattle.response.proofs.judge_visit.Goals as goal
 
 pub returns : goal.returns

@@ -1,6 +1,5 @@
 -- `codec::decode::bit_set_behind_date` meets its contract: the 80 bits behind the date are five fields of 16.
 -- Assumes nothing.
-use borrow.Author.Rules.{rules}
 use Rattle.codec.proofs.SomeFieldSet.{set_here, set_later, set_last}
 use Rattle.codec.proofs.decode.bit_set_behind_date.Goals as goal
 

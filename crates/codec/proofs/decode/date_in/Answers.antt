@@ -1,6 +1,5 @@
 -- `codec::decode::date_in` meets its contract.
 -- Assumes nothing.
-use borrow.Author.Rules.{rules}
 use Rattle.codec.proofs.decode.date_in.Goals as goal
 
 pub returns : goal.returns

@@ -1,6 +1,5 @@
 -- `codec::decode::marks_at` meets its contract.
 -- Assumes nothing.
-use borrow.Author.Rules.{rules}
 use Rattle.codec.proofs.decode.marks_at.Goals as goal
 
 pub returns : goal.returns

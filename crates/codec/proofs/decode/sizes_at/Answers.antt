@@ -1,6 +1,5 @@
 -- `codec::decode::sizes_at` meets its contract.
 -- Assumes nothing.
-use borrow.Author.Rules.{rules}
 use Rattle.codec.proofs.decode.sizes_at.Goals as goal
 
 pub returns : goal.returns

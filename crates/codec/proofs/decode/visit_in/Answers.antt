@@ -1,7 +1,6 @@
 -- `codec::decode::visit_in` meets its contract.
 -- Assumes nothing.
 use Rattle.codec.specs.Reading.{visit_fields_in, visit_in}
-use borrow.Author.Rules.{rules}
 use Rattle.codec.proofs.decode.visit_in.Goals as goal
 
 pub returns : goal.returns

@@ -3,7 +3,6 @@
 use mathlib.Core.Path.{refl}
 use native.Mathlib.Omega.{arith}
 use Rattle.codec.proofs.FieldOfThreeBytes.{field_read}
-use borrow.Author.Rules.{rules}
 use Rattle.codec.proofs.fields.bits_at.Goals as goal
 
 pub returns : goal.returns

@@ -1,6 +1,5 @@
 -- `codec::fields::bits_of` meets its contract.
 -- Assumes nothing.
-use borrow.Author.Rules.{rules}
 use Rattle.codec.proofs.FieldOfThreeBytes.{shifted_one, shifted_pos, bits_lt}
 use Rattle.codec.proofs.fields.bits_of.Goals as goal
 

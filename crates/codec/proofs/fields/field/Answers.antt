@@ -1,7 +1,6 @@
 -- `codec::fields::field` meets its contract.
 -- Assumes nothing.
 use Rattle.records.specs.Forms.{new_form}
-use borrow.Author.Rules.{rules}
 use Rattle.codec.proofs.fields.field.Goals as goal
 
 pub returns : goal.returns

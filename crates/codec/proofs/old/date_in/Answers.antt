@@ -1,6 +1,5 @@
 -- `codec::old::date_in` meets its contract.
 -- Assumes nothing.
-use borrow.Author.Rules.{rules}
 use Rattle.codec.proofs.old.date_in.Goals as goal
 
 pub returns : goal.returns

@@ -1,7 +1,6 @@
 -- `codec::old::field` meets its contract.
 -- Assumes nothing.
 use Rattle.records.specs.Forms.{old_form}
-use borrow.Author.Rules.{rules}
 use Rattle.codec.proofs.old.field.Goals as goal
 
 pub returns : goal.returns

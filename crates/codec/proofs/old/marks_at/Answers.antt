@@ -1,6 +1,5 @@
 -- `codec::old::marks_at` meets its contract.
 -- Assumes nothing.
-use borrow.Author.Rules.{rules}
 use Rattle.codec.proofs.old.marks_at.Goals as goal
 
 pub returns : goal.returns

@@ -2,7 +2,6 @@
 -- Assumes nothing.
 use Rattle.laws.proofs.Tests.{tests}
 use Rattle.codec.specs.Reading.{raw_in}
-use borrow.Author.Rules.{rules}
 use Rattle.codec.proofs.old.raw_in.Goals as goal
 
 pub returns-then-kind-eq1 : goal.returns-then-kind-eq1

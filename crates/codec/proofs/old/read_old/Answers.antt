@@ -1,7 +1,6 @@
 -- `codec::old::read_old` meets its contract.
 -- Assumes nothing.
 use native.Mathlib.Omega.{arith}
-use borrow.Author.Rules.{rules}
 use Rattle.codec.proofs.Returns.{reads_old, times_ten_lem, reads_length, reads_no_kind, reads_judged}
 use Rattle.codec.proofs.old.read_old.Goals as goal
 

@@ -1,6 +1,5 @@
 -- `codec::old::sizes_at` meets its contract.
 -- Assumes nothing.
-use borrow.Author.Rules.{rules}
 use Rattle.codec.proofs.old.sizes_at.Goals as goal
 
 pub returns : goal.returns

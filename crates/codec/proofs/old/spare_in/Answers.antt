@@ -2,7 +2,6 @@
 -- Assumes nothing.
 use native.Mathlib.Nat.{div-one}
 use Rattle.codec.specs.Reading.{spare_in}
-use borrow.Author.Rules.{rules}
 use Rattle.codec.proofs.old.spare_in.Goals as goal
 
 pub returns : goal.returns

@@ -1,6 +1,5 @@
 -- `records::targets::size_outside_limits` meets its contract.
 -- Assumes nothing.
-use borrow.Author.Rules.{rules}
 use Rattle.laws.proofs.Tests.{tests}
 use Rattle.records.specs.Refusals.{size_outside_limits}
 use Rattle.records.proofs.targets.size_outside_limits.Goals as goal

@@ -1,7 +1,6 @@
 -- `records::targets::some_not_zero_beyond_count` meets its contract.
 -- Assumes nothing.
 use mathlib.Core.Path.{◌∙◌}
-use borrow.Author.Rules.{rules}
 use Rattle.records.proofs.targets.some_not_zero_beyond_count.Goals as goal
 
 pub returns : goal.returns

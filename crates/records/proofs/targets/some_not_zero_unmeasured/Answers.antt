@@ -1,7 +1,6 @@
 -- `records::targets::some_not_zero_unmeasured` meets its contract.
 -- Assumes nothing.
 use mathlib.Core.Path.{◌∙◌}
-use borrow.Author.Rules.{rules}
 use Rattle.records.proofs.targets.some_not_zero_unmeasured.Goals as goal
 
 pub returns : goal.returns

@@ -1,7 +1,6 @@
 -- `records::targets::some_size_outside_limits` meets its contract.
 -- Assumes nothing.
 use mathlib.Core.Path.{◌∙◌}
-use borrow.Author.Rules.{rules}
 use Rattle.records.proofs.targets.some_size_outside_limits.Goals as goal
 
 pub returns : goal.returns

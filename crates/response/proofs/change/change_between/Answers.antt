@@ -1,7 +1,6 @@
 -- `response::change::change_between` meets its contract.
 -- Assumes nothing.
 use Rattle.response.proofs.ChangeReturns.{increase, no_tenth, decrease}
-use borrow.Author.Rules.{rules}
 use Rattle.response.proofs.change.change_between.Goals as goal
 
 pub returns-then-baseline-sum : goal.returns-then-baseline-sum

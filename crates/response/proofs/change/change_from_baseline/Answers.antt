@@ -1,6 +1,5 @@
 -- `response::change::change_from_baseline` meets its contract.
 -- Assumes nothing.
-use borrow.Author.Rules.{rules}
 use Rattle.response.proofs.ChangeReturns.{no_targets, some_unmeasured, no_baseline_sum, between}
 use Rattle.response.proofs.change.change_from_baseline.Goals as goal
 

@@ -3,7 +3,6 @@
 use mathlib.Core.Path.{refl}
 use mathlib.Core.List.{List, [], ◌∷◌}
 use Prim.Native.Nat.{ℕ}
-use borrow.Author.Rules.{rules}
 use Rattle.response.proofs.OverallReturns.{each_cell}
 use Rattle.response.proofs.grid.code_at.Goals as goal
 

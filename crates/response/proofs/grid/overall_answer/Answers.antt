@@ -1,7 +1,6 @@
 -- `response::grid::overall_answer` meets its contract: at each return the tests that led there decide the definition.
 -- Assumes nothing.
 use Rattle.response.proofs.OverallReturns.{missing, new_lesion_lem, target_pd_lem, status_pd, in_grid}
-use borrow.Author.Rules.{rules}
 use Rattle.response.proofs.grid.overall_answer.Goals as goal
 
 pub returns-then-not-assessed : goal.returns-then-not-assessed

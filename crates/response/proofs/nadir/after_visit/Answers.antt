@@ -1,6 +1,5 @@
 -- `response::nadir::after_visit` meets its contract.
 -- Assumes nothing.
-use borrow.Author.Rules.{rules}
 use Rattle.response.proofs.NadirReturns.{incomplete, not_less, least_now}
 use Rattle.response.proofs.nadir.after_visit.Goals as goal
 

@@ -10,7 +10,6 @@ use borrow.Author.Tests.{lt-leb}
 use Rattle.laws.specs.Choice.{both}
 use Rattle.laws.proofs.Tests.{both_with_true}
 use Rattle.response_rules.specs.SumOfDiameters.{all_measured}
-use borrow.Author.Rules.{rules}
 use Rattle.response.proofs.sums.all_measured.Goals as goal
 
 -- with five targets or more, all five places

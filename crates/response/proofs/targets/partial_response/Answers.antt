@@ -2,7 +2,6 @@
 -- Assumes nothing.
 use Rattle.laws.proofs.Tests.{tests}
 use Rattle.response_rules.specs.TargetAnswer.{partial_response}
-use borrow.Author.Rules.{rules}
 use Rattle.response.proofs.targets.partial_response.Goals as goal
 
 pub returns : goal.returns

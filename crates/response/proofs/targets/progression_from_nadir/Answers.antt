@@ -2,7 +2,6 @@
 -- Assumes nothing.
 use Rattle.laws.proofs.Tests.{tests}
 use Rattle.response_rules.specs.TargetAnswer.{progression_from_nadir}
-use borrow.Author.Rules.{rules}
 use Rattle.response.proofs.targets.progression_from_nadir.Goals as goal
 
 pub returns-then-nadir-sum : goal.returns-then-nadir-sum

@@ -1,7 +1,6 @@
 -- `response::targets::target_answer` meets its contract: at each return the tests that led there pick the rule.
 -- Assumes nothing.
 use Rattle.response.proofs.TargetReturns.{no_targets, complete, progressive, some_unmeasured, partly, stable}
-use borrow.Author.Rules.{rules}
 use Rattle.response.proofs.targets.target_answer.Goals as goal
 
 pub returns-then-baseline-eq0 : goal.returns-then-baseline-eq0

@@ -1,7 +1,6 @@
 -- `writing::encode::first_targets` meets its contract.
 -- Assumes nothing.
 use native.Mathlib.Omega.{arith}
-use borrow.Author.Rules.{rules}
 use Rattle.writing.proofs.encode.first_targets.Goals as goal
 
 pub target_number-a-requires : goal.target_number-a-requires

@@ -1,7 +1,6 @@
 -- `writing::encode::head_number` meets its contract.
 -- Assumes nothing.
 use native.Mathlib.Omega.{arith}
-use borrow.Author.Rules.{rules}
 use Rattle.writing.proofs.encode.head_number.Goals as goal
 
 pub returns : goal.returns

@@ -1,7 +1,6 @@
 -- `writing::encode::high_number` meets its contract: no refusal bounds the sizes, so that the last two targets stand in the low half.
 -- Assumes nothing.
 use native.Mathlib.Omega.{arith}
-use borrow.Author.Rules.{rules}
 use Rattle.writing.proofs.FieldsFit.{sizes_below, last_targets_below}
 use Rattle.writing.proofs.encode.high_number.Goals as goal
 

@@ -1,7 +1,6 @@
 -- `writing::encode::last_targets` meets its contract.
 -- Assumes nothing.
 use native.Mathlib.Omega.{arith}
-use borrow.Author.Rules.{rules}
 use Rattle.writing.proofs.encode.last_targets.Goals as goal
 
 pub target_number-d-requires : goal.target_number-d-requires

@@ -1,7 +1,6 @@
 -- `writing::encode::low_number` meets its contract: no refusal bounds the sizes, so that no sum wraps.
 -- Assumes nothing.
 use native.Mathlib.Omega.{arith}
-use borrow.Author.Rules.{rules}
 use Rattle.writing.proofs.FieldsFit.{sizes_below}
 use Rattle.writing.proofs.encode.low_number.Goals as goal
 

@@ -6,7 +6,6 @@ use lib.ListN.{length-set}
 use mathlib.Core.List.{◌++◌}
 use Rattle.laws.specs.Layout.{unpack, bytes}
 use lib.Seq.{sets-eq}
-use borrow.Author.Rules.{rules}
 use Rattle.writing.proofs.encode.store.Goals as goal
 
 pub bounds-out-1 : goal.bounds-out-1
