@@ -1,6 +1,5 @@
 -- `outcome_values::duration::duration_of` meets its contract.
 -- Assumes nothing.
-use borrow.Author.Rules.{rules}
 use Rattle.outcome_values.proofs.Returns.{response_days}
 use Rattle.outcome_values.proofs.duration.duration_of.Goals as goal
 

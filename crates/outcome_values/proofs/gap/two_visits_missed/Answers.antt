@@ -1,6 +1,5 @@
 -- `outcome_values::gap::two_visits_missed` meets its contract.
 -- Assumes nothing.
-use borrow.Author.Rules.{rules}
 use Rattle.outcome_values.proofs.Returns.{missed_by}
 use Rattle.outcome_values.proofs.gap.two_visits_missed.Goals as goal
 

@@ -1,6 +1,5 @@
 -- `outcome_values::pfs::event_unless_missed` meets its contract.
 -- Assumes nothing.
-use borrow.Author.Rules.{rules}
 use Rattle.outcome_values.proofs.Returns.{missed, in_time}
 use Rattle.outcome_values.proofs.pfs.event_unless_missed.Goals as goal
 

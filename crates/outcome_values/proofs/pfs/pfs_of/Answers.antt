@@ -1,6 +1,5 @@
 -- `outcome_values::pfs::pfs_of` meets its contract.
 -- Assumes nothing.
-use borrow.Author.Rules.{rules}
 use Rattle.outcome_values.proofs.Returns.{by_progression, by_death, by_neither}
 use Rattle.outcome_values.proofs.pfs.pfs_of.Goals as goal
 

@@ -1,6 +1,5 @@
 -- `outcome_values::pfs::pfs_of_death` meets its contract.
 -- Assumes nothing.
-use borrow.Author.Rules.{rules}
 use Rattle.outcome_rules.specs.Pfs.{early_death_limit}
 use Rattle.outcome_values.proofs.Returns.{with_evaluable, early, not_early}
 use Rattle.outcome_values.proofs.pfs.pfs_of_death.Goals as goal
