@@ -23,7 +23,7 @@ use Rattle.records.specs.Forms.{new_unit}
 use Rattle.response_rules.specs.declared.TargetAnswer.TheVariants as T
 use Rattle.response_rules.specs.declared.OverallAnswer.TheVariants as O
 use Rattle.response_rules.specs.declared.ChangeAnswer.TheVariants as C
-use Rattle.response_rules.specs.Words.{Word, CR, PR, SD, PD, NE, target_word, status_word, overall_word}
+use Rattle.response_rules.specs.Words.{Word, CR, PR, SD, NE, target_word, status_word, overall_word}
 use Rattle.response_rules.specs.SumOfDiameters.{sum_of_diameters, all_measured}
 use Rattle.response_rules.specs.TargetAnswer.{all_disappeared, progression_from_nadir, partial_response, target_answer}
 use Rattle.response_rules.specs.Inputs.{Visit, visit_of}

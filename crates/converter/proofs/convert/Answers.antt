@@ -1,6 +1,5 @@
 -- `converter::convert` meets its contract.
 -- Assumes nothing.
-use borrow.Author.Rules.{rules}
 use native.Mathlib.Omega.{arith}
 use Rattle.converter.proofs.ConvertedFile.{converted_length}
 use Rattle.converter.proofs.ConvertReturns.{converts_refused, parts_read, converts_short, converts_done}

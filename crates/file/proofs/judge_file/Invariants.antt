@@ -1,14 +1,11 @@
 -- `file::judge_file` meets its contract: the records before index k are taken, and the verdict is that of the rest behind them.
 -- Assumes nothing.
-use mathlib.Core.Path.{◌≡◌, refl, sym, ◌∙◌}
+use mathlib.Core.Path.{◌≡◌}
 use Prim.Native.Nat.{◌-◌, ◌/◌, ◌≤◌}
-use borrow.Author.Rules.{rules}
-use native.Mathlib.Omega.{arith}
 use lib.ListN.{length}
 use Rattle.codec.specs.Bytes.{record_length}
 use Rattle.codec.specs.Parts.{most_bytes}
-use Rattle.codec.proofs.PartsJoined.{fair_length}
-use Rattle.file.proofs.TurnsOfLoop.{bad, first_refused, Standing, first_standing, turn_refused, turn, ended}
+use Rattle.file.proofs.TurnsOfLoop.{Standing}
 use Rattle.records.specs.Forms.{new_form}
 use Rattle.file.proofs.judge_file.Given as goal
 

@@ -1,14 +1,10 @@
 -- `listing::judge_into` meets its contract: the records before index k are taken, and their lines written.
 -- Assumes nothing.
-use mathlib.Core.Path.{◌≡◌, refl, sym, ◌∙◌}
-use Prim.Native.Nat.{◌-◌, ◌*◌, ◌/◌, ◌≤◌}
-use borrow.Author.Rules.{rules}
+use mathlib.Core.Path.{refl, sym, ◌∙◌}
 use native.Mathlib.Omega.{arith}
 use lib.ListN.{length}
-use Rattle.codec.specs.Bytes.{record_length}
-use Rattle.codec.specs.Parts.{most_bytes}
 use Rattle.codec.proofs.PartsJoined.{fair_length}
-use Rattle.listing.proofs.TurnsOfLoop.{bad_into, first_into, turn_into, Printing, first_printing, next_writable, turn_printing, ended_into}
+use Rattle.listing.proofs.TurnsOfLoop.{bad_into, first_into, turn_into, first_printing, next_writable, turn_printing, ended_into}
 use Rattle.listing.proofs.judge_into.Goals as goal
 use Rattle.records.specs.Forms.{new_form}
 

@@ -1,6 +1,5 @@
 -- `adding::after::after_death` meets its contract.
 -- Assumes nothing.
-use borrow.Author.Rules.{rules}
 use Rattle.adding.specs.OneRecordMore.{death_added}
 use Rattle.adding.proofs.after.after_death.Goals as goal
 

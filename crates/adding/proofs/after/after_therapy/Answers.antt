@@ -1,6 +1,5 @@
 -- `adding::after::after_therapy` meets its contract.
 -- Assumes nothing.
-use borrow.Author.Rules.{rules}
 use Rattle.adding.specs.OneRecordMore.{therapy_added}
 use Rattle.adding.proofs.after.after_therapy.Goals as goal
 

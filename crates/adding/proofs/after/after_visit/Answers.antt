@@ -1,6 +1,5 @@
 -- `adding::after::after_visit` meets its contract.
 -- Assumes nothing.
-use borrow.Author.Rules.{rules}
 use Rattle.adding.proofs.Returns.{visit_made}
 use Rattle.adding.proofs.after.after_visit.Goals as goal
 

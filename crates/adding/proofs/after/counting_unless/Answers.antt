@@ -1,6 +1,5 @@
 -- `adding::after::counting_unless` meets its contract.
 -- Assumes nothing.
-use borrow.Author.Rules.{rules}
 use Rattle.adding.proofs.Returns.{counting_or_closed}
 use Rattle.adding.proofs.after.counting_unless.Goals as goal
 

@@ -1,6 +1,5 @@
 -- `adding::calls::add_bytes` meets its contract.
 -- Assumes nothing.
-use borrow.Author.Rules.{rules}
 use Rattle.adding.proofs.AddingAnswers.{bytes_added}
 use Rattle.adding.proofs.calls.add_bytes.Goals as goal
 

@@ -1,6 +1,5 @@
 -- `adding::calls::added` meets its contract.
 -- Assumes nothing.
-use borrow.Author.Rules.{rules}
 use Rattle.adding.proofs.AddingAnswers.{value_added}
 use Rattle.adding.proofs.calls.added.Goals as goal
 

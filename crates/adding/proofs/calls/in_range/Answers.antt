@@ -1,6 +1,5 @@
 -- `adding::calls::in_range` meets its contract.
 -- Assumes nothing.
-use borrow.Author.Rules.{rules}
 use Rattle.adding.proofs.Returns.{both_in, first_out}
 use Rattle.adding.proofs.calls.in_range.Goals as goal
 

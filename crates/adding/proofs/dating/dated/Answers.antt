@@ -1,6 +1,5 @@
 -- `adding::dating::dated` meets its contract.
 -- Assumes nothing.
-use borrow.Author.Rules.{rules}
 use Rattle.adding.proofs.AddingAnswers.{value_dated}
 use Rattle.adding.proofs.dating.dated.Goals as goal
 

@@ -1,6 +1,5 @@
 -- `adding::dating::dated_bytes` meets its contract.
 -- Assumes nothing.
-use borrow.Author.Rules.{rules}
 use Rattle.adding.proofs.AddingAnswers.{visit_dated_lem, other_dated}
 use Rattle.adding.proofs.dating.dated_bytes.Goals as goal
 

@@ -1,6 +1,5 @@
 -- `adding::dating::exists` meets its contract.
 -- Assumes nothing.
-use borrow.Author.Rules.{rules}
 use Rattle.adding.proofs.AddingAnswers.{exists_day, exists_before, exists_none}
 use Rattle.adding.proofs.dating.exists.Goals as goal
 

@@ -1,6 +1,5 @@
 -- `adding::dating::own_of_visit` meets its contract.
 -- Assumes nothing.
-use borrow.Author.Rules.{rules}
 use Rattle.adding.proofs.AddingAnswers.{own_no_date, own_by_fields}
 use Rattle.adding.proofs.dating.own_of_visit.Goals as goal
 

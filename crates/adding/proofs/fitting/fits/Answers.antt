@@ -1,6 +1,5 @@
 -- `adding::fitting::fits` meets its contract.
 -- Assumes nothing.
-use borrow.Author.Rules.{rules}
 use Rattle.adding.proofs.Returns.{fits_by_lem}
 use Rattle.adding.proofs.fitting.fits.Goals as goal
 

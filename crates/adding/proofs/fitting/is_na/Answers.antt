@@ -1,6 +1,5 @@
 -- `adding::fitting::is_na` meets its contract.
 -- Assumes nothing.
-use borrow.Author.Rules.{rules}
 use Rattle.adding.proofs.Returns.{status_na, status_cr, status_nn, status_pd, status_ne}
 use Rattle.adding.proofs.fitting.is_na.Goals as goal
 

@@ -1,6 +1,5 @@
 -- `adding::fitting::measured_beyond` meets its contract.
 -- Assumes nothing.
-use borrow.Author.Rules.{rules}
 use Rattle.outcome_rules.specs.LawfulLists.{measured_beyond}
 use Rattle.adding.proofs.fitting.measured_beyond.Goals as goal
 

@@ -1,6 +1,5 @@
 -- `adding::refusals::refusal_of_step` meets its contract.
 -- Assumes nothing.
-use borrow.Author.Rules.{rules}
 use Rattle.adding.proofs.Returns.{outside_first, own_first, behind_first}
 use Rattle.adding.proofs.refusals.refusal_of_step.Goals as goal
 

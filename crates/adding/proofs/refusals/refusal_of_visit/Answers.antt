@@ -1,6 +1,5 @@
 -- `adding::refusals::refusal_of_visit` meets its contract.
 -- Assumes nothing.
-use borrow.Author.Rules.{rules}
 use Rattle.adding.proofs.Returns.{refusal_as_tested}
 use Rattle.adding.proofs.refusals.refusal_of_visit.Goals as goal
 

@@ -1,6 +1,5 @@
 -- `adding::stepping::place_visit` meets its contract.
 -- Assumes nothing.
-use borrow.Author.Rules.{rules}
 use Rattle.adding.proofs.Returns.{visit_placed}
 use Rattle.adding.proofs.stepping.place_visit.Goals as goal
 

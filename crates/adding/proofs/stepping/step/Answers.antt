@@ -1,6 +1,5 @@
 -- `adding::stepping::step` meets its contract.
 -- Assumes nothing.
-use borrow.Author.Rules.{rules}
 use Rattle.adding.proofs.Returns.{second_baseline, of_visit, of_therapy, of_death}
 use Rattle.adding.proofs.stepping.step.Goals as goal
 

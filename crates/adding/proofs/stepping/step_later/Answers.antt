@@ -1,6 +1,5 @@
 -- `adding::stepping::step_later` meets its contract.
 -- Assumes nothing.
-use borrow.Author.Rules.{rules}
 use Rattle.adding.proofs.Returns.{later_refused, later_stepped}
 use Rattle.adding.proofs.stepping.step_later.Goals as goal
 

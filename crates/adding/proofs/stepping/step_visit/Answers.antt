@@ -1,6 +1,5 @@
 -- `adding::stepping::step_visit` meets its contract.
 -- Assumes nothing.
-use borrow.Author.Rules.{rules}
 use Rattle.adding.proofs.Returns.{visit_refused, visit_stepped}
 use Rattle.adding.proofs.stepping.step_visit.Goals as goal
 

@@ -1,14 +1,11 @@
 -- `converter::judging::judge_old` meets its contract: the records before index k are taken, and the verdict is that of the rest behind them.
 -- Assumes nothing.
-use mathlib.Core.Path.{◌≡◌, refl, sym, ◌∙◌}
-use Prim.Native.Nat.{◌-◌, ◌/◌, ◌≤◌}
-use borrow.Author.Rules.{rules}
+use mathlib.Core.Path.{refl, sym, ◌∙◌}
 use native.Mathlib.Omega.{arith}
 use lib.ListN.{length}
 use Rattle.records.specs.Forms.{old_form}
-use Rattle.codec.specs.Parts.{most_bytes}
 use Rattle.codec.proofs.PartsJoined.{fair_length}
-use Rattle.converter.proofs.TurnsOfJudging.{Standing, bad, first_refused, first_standing, turn_refused, turn, ended}
+use Rattle.converter.proofs.TurnsOfJudging.{bad, first_refused, first_standing, turn_refused, turn, ended}
 use Rattle.converter.proofs.judging.judge_old.Goals as goal
 
 pub returns-then-bad_old_length : goal.returns-then-bad_old_length

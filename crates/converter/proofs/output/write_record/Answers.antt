@@ -1,6 +1,5 @@
 -- `converter::output::write_record` meets its contract.
 -- Assumes nothing.
-use borrow.Author.Rules.{rules}
 use Rattle.converter.proofs.TurnsOfWriting.{record_stored}
 use Rattle.converter.proofs.output.write_record.Goals as goal
 

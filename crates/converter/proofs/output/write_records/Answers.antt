@@ -1,12 +1,10 @@
 -- `converter::output::write_records` meets its contract: the records before index k are stored, and everything past them is as it was.
 -- Assumes nothing.
-use mathlib.Core.Path.{◌≡◌, refl}
-use Prim.Native.Nat.{◌-◌, ◌*◌, ◌/◌, ◌≤◌}
+use mathlib.Core.Path.{refl}
 use borrow.Author.Rules.{rules}
 use native.Mathlib.Omega.{arith}
-use lib.ListN.{length}
 use Rattle.converter.proofs.ConvertedFile.{converted_length}
-use Rattle.converter.proofs.TurnsOfWriting.{Stored, nothing_stored, part_read, one_stored, all_stored}
+use Rattle.converter.proofs.TurnsOfWriting.{nothing_stored, part_read, one_stored, all_stored}
 use Rattle.converter.proofs.output.write_records.Goals as goal
 
 pub loop-k-init : goal.loop-k-init

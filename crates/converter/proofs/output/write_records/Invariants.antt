@@ -1,12 +1,9 @@
 -- `converter::output::write_records` meets its contract: the records before index k are stored, and everything past them is as it was.
 -- Assumes nothing.
-use mathlib.Core.Path.{◌≡◌, refl}
+use mathlib.Core.Path.{◌≡◌}
 use Prim.Native.Nat.{◌-◌, ◌*◌, ◌/◌, ◌≤◌}
-use borrow.Author.Rules.{rules}
-use native.Mathlib.Omega.{arith}
 use lib.ListN.{length}
-use Rattle.converter.proofs.ConvertedFile.{converted_length}
-use Rattle.converter.proofs.TurnsOfWriting.{Stored, nothing_stored, part_read, one_stored, all_stored}
+use Rattle.converter.proofs.TurnsOfWriting.{Stored}
 use Rattle.converter.proofs.output.write_records.Given as goal
 
 abbrev pub invariant-loop-k : goal.invariant-loop-k

@@ -1,6 +1,5 @@
 -- `converter::placing::add_old` meets its contract.
 -- Assumes nothing.
-use borrow.Author.Rules.{rules}
 use Rattle.converter.proofs.PlacingReturns.{adds_old}
 use Rattle.converter.proofs.placing.add_old.Goals as goal
 

@@ -1,6 +1,5 @@
 -- `converter::placing::open_old` meets its contract.
 -- Assumes nothing.
-use borrow.Author.Rules.{rules}
 use Rattle.converter.proofs.PlacingReturns.{opens_old}
 use Rattle.converter.proofs.placing.open_old.Goals as goal
 

@@ -1,6 +1,5 @@
 -- `file::ending::end_file` meets its contract.
 -- Assumes nothing.
-use borrow.Author.Rules.{rules}
 use Rattle.file.proofs.Returns.{ends_outside, ends_late, ends_accepted}
 use Rattle.file.proofs.ending.end_file.Goals as goal
 

@@ -1,6 +1,5 @@
 -- `file::ending::is_after` meets its contract.
 -- Assumes nothing.
-use borrow.Author.Rules.{rules}
 use Rattle.file.proofs.Returns.{after_on}
 use Rattle.file.proofs.ending.is_after.Goals as goal
 

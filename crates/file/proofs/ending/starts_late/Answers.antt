@@ -1,6 +1,5 @@
 -- `file::ending::starts_late` meets its contract.
 -- Assumes nothing.
-use borrow.Author.Rules.{rules}
 use Rattle.file.proofs.Returns.{none_late, response_late}
 use Rattle.file.proofs.ending.starts_late.Goals as goal
 

@@ -1,6 +1,5 @@
 -- `listing::outcomes::put_outcome` meets its contract.
 -- Assumes nothing.
-use borrow.Author.Rules.{rules}
 use native.Mathlib.Omega.{arith}
 use Rattle.listing_text.specs.Text.{outcome_text}
 use Rattle.listing.proofs.TextsWritten.{then}

@@ -1,6 +1,5 @@
 -- `listing::outcomes::put_pfs` meets its contract.
 -- Assumes nothing.
-use borrow.Author.Rules.{rules}
 use Rattle.listing_text.specs.Text.{pfs_text}
 use Rattle.listing.proofs.outcomes.put_pfs.Goals as goal
 

@@ -1,6 +1,5 @@
 -- `listing::outcomes::put_refusal` meets its contract.
 -- Assumes nothing.
-use borrow.Author.Rules.{rules}
 use Rattle.listing_text.specs.Text.{refusal_text}
 use Rattle.listing.proofs.TextsWritten.{then}
 use Rattle.listing.proofs.outcomes.put_refusal.Goals as goal

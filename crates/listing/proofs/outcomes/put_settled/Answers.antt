@@ -1,6 +1,5 @@
 -- `listing::outcomes::put_settled` meets its contract.
 -- Assumes nothing.
-use borrow.Author.Rules.{rules}
 use mathlib.Core.List.{[], ◌∷◌}
 use Rattle.listing_text.specs.Text.{settled_text}
 use Rattle.listing.proofs.TextsWritten.{then, as_text}

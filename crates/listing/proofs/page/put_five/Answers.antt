@@ -1,6 +1,5 @@
 -- `listing::page::put_five` meets its contract.
 -- Assumes nothing.
-use borrow.Author.Rules.{rules}
 use Rattle.listing.proofs.TextsWritten.{then}
 use Rattle.listing.proofs.page.put_five.Goals as goal
 

@@ -1,6 +1,5 @@
 -- `listing::page::put_three` meets its contract.
 -- Assumes nothing.
-use borrow.Author.Rules.{rules}
 use Rattle.listing.proofs.TextsWritten.{then}
 use Rattle.listing.proofs.page.put_three.Goals as goal
 

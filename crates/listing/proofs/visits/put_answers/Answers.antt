@@ -1,6 +1,5 @@
 -- `listing::visits::put_answers` meets its contract.
 -- Assumes nothing.
-use borrow.Author.Rules.{rules}
 use Rattle.response_rules.specs.Words.{target_word, status_word, overall_word}
 use Rattle.listing.proofs.TextsWritten.{then, word}
 use Rattle.listing.proofs.visits.put_answers.Goals as goal

@@ -1,6 +1,5 @@
 -- `listing::visits::put_visit` meets its contract.
 -- Assumes nothing.
-use borrow.Author.Rules.{rules}
 use Rattle.listing_text.specs.Text.{visit_text}
 use Rattle.listing.proofs.TextsWritten.{then}
 use Rattle.listing.proofs.visits.put_visit.Goals as goal

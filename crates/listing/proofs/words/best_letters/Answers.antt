@@ -1,6 +1,5 @@
 -- `listing::words::best_letters` meets its contract.
 -- Assumes nothing.
-use borrow.Author.Rules.{rules}
 use Rattle.listing.proofs.TextsWritten.{of_best}
 use Rattle.listing.proofs.words.best_letters.Goals as goal
 

@@ -1,6 +1,5 @@
 -- `listing::words::overall_letters` meets its contract.
 -- Assumes nothing.
-use borrow.Author.Rules.{rules}
 use Rattle.listing.proofs.TextsWritten.{of_overall}
 use Rattle.listing.proofs.words.overall_letters.Goals as goal
 

@@ -1,6 +1,5 @@
 -- `listing::words::status_letters` meets its contract.
 -- Assumes nothing.
-use borrow.Author.Rules.{rules}
 use Rattle.listing.proofs.TextsWritten.{of_status}
 use Rattle.listing.proofs.words.status_letters.Goals as goal
 

@@ -1,6 +1,5 @@
 -- `listing::words::target_letters` meets its contract.
 -- Assumes nothing.
-use borrow.Author.Rules.{rules}
 use Rattle.listing.proofs.TextsWritten.{of_target}
 use Rattle.listing.proofs.words.target_letters.Goals as goal
 

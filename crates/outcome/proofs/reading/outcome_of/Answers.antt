@@ -1,6 +1,5 @@
 -- `outcome::reading::outcome_of` meets its contract.
 -- Assumes nothing.
-use borrow.Author.Rules.{rules}
 use Rattle.outcome.proofs.Returns.{parts_read}
 use Rattle.outcome.proofs.reading.outcome_of.Goals as goal
 

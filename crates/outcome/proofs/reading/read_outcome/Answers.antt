@@ -1,6 +1,5 @@
 -- `outcome::reading::read_outcome` meets its contract.
 -- Assumes nothing.
-use borrow.Author.Rules.{rules}
 use Rattle.outcome.proofs.Returns.{enrolment_outside, follow_up_outside, outcome_read_lem}
 use Rattle.outcome.proofs.reading.read_outcome.Goals as goal
 

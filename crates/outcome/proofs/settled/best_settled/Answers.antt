@@ -1,6 +1,5 @@
 -- `outcome::settled::best_settled` meets its contract.
 -- Assumes nothing.
-use borrow.Author.Rules.{rules}
 use Rattle.outcome.proofs.Returns.{best_settled_as}
 use Rattle.outcome.proofs.settled.best_settled.Goals as goal
 

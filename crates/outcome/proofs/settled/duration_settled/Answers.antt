@@ -1,6 +1,5 @@
 -- `outcome::settled::duration_settled` meets its contract.
 -- Assumes nothing.
-use borrow.Author.Rules.{rules}
 use Rattle.outcome.proofs.Returns.{none_settled, duration_settled_as}
 use Rattle.outcome.proofs.settled.duration_settled.Goals as goal
 

@@ -1,6 +1,5 @@
 -- `subject::days::confirmed_on` meets its contract.
 -- Assumes nothing.
-use borrow.Author.Rules.{rules}
 use Rattle.subject.proofs.Returns.{confirmed_recorded}
 use Rattle.subject.proofs.days.confirmed_on.Goals as goal
 

@@ -1,6 +1,5 @@
 -- `subject::days::first_recorded` meets its contract.
 -- Assumes nothing.
-use borrow.Author.Rules.{rules}
 use Rattle.subject.proofs.Returns.{first_absent, first_recorded_lem}
 use Rattle.subject.proofs.days.first_recorded.Goals as goal
 

@@ -1,6 +1,5 @@
 -- `subject::opening::blank_subject` meets its contract.
 -- Assumes nothing.
-use borrow.Author.Rules.{rules}
 use Rattle.subject.proofs.OpeningReturns.{blank_made}
 use Rattle.subject.proofs.opening.blank_subject.Goals as goal
 

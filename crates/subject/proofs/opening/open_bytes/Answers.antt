@@ -1,6 +1,5 @@
 -- `subject::opening::open_bytes` meets its contract.
 -- Assumes nothing.
-use borrow.Author.Rules.{rules}
 use Rattle.subject.proofs.OpeningReturns.{bytes_read, bytes_short, bytes_no_kind, bytes_own}
 use Rattle.subject.proofs.opening.open_bytes.Goals as goal
 

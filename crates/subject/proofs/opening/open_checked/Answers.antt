@@ -1,6 +1,5 @@
 -- `subject::opening::open_checked` meets its contract.
 -- Assumes nothing.
-use borrow.Author.Rules.{rules}
 use Rattle.subject.proofs.OpeningReturns.{checked_baseline, checked_visit, checked_therapy, checked_death}
 use Rattle.subject.proofs.opening.open_checked.Goals as goal
 

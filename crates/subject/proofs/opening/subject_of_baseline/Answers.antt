@@ -1,6 +1,5 @@
 -- `subject::opening::subject_of_baseline` meets its contract.
 -- Assumes nothing.
-use borrow.Author.Rules.{rules}
 use Rattle.subject.proofs.OpeningReturns.{first_made}
 use Rattle.subject.proofs.opening.subject_of_baseline.Goals as goal
 

@@ -1,6 +1,5 @@
 -- `subject::range::day_in_range` meets its contract.
 -- Assumes nothing.
-use borrow.Author.Rules.{rules}
 use Rattle.subject.proofs.Returns.{day_from_one, day_zero}
 use Rattle.subject.proofs.range.day_in_range.Goals as goal
 

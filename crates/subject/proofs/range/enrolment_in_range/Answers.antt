@@ -1,6 +1,5 @@
 -- `subject::range::enrolment_in_range` meets its contract.
 -- Assumes nothing.
-use borrow.Author.Rules.{rules}
 use Rattle.subject.proofs.Returns.{by_sum, many_targets, without_date}
 use Rattle.subject.proofs.range.enrolment_in_range.Goals as goal
 

@@ -1,6 +1,5 @@
 -- `subject::range::event_in_range` meets its contract.
 -- Assumes nothing.
-use borrow.Author.Rules.{rules}
 use Rattle.subject.proofs.Returns.{by_evaluable, progression_outside, previous_outside}
 use Rattle.subject.proofs.range.event_in_range.Goals as goal
 

@@ -1,6 +1,5 @@
 -- `subject::range::followup_in_range` meets its contract.
 -- Assumes nothing.
-use borrow.Author.Rules.{rules}
 use Rattle.subject.proofs.Returns.{by_counting, event_outside, death_outside, latest_outside, large_nadir}
 use Rattle.subject.proofs.range.followup_in_range.Goals as goal
 

@@ -1,6 +1,5 @@
 -- `subject::range::maybe_in_range` meets its contract.
 -- Assumes nothing.
-use borrow.Author.Rules.{rules}
 use Rattle.subject.proofs.Returns.{recorded_in_range}
 use Rattle.subject.proofs.range.maybe_in_range.Goals as goal
 

@@ -1,6 +1,5 @@
 -- `subject::visits::best_shown` meets its contract.
 -- Assumes nothing.
-use borrow.Author.Rules.{rules}
 use Rattle.subject.proofs.Returns.{shown_cr, shown_pr, shown_sd}
 use Rattle.subject.proofs.visits.best_shown.Goals as goal
 

@@ -1,6 +1,5 @@
 -- `subject::visits::counting_after` meets its contract.
 -- Assumes nothing.
-use borrow.Author.Rules.{rules}
 use Rattle.subject.proofs.Returns.{counting_made}
 use Rattle.subject.proofs.visits.counting_after.Goals as goal
 

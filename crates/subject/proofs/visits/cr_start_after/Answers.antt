@@ -1,6 +1,5 @@
 -- `subject::visits::cr_start_after` meets its contract.
 -- Assumes nothing.
-use borrow.Author.Rules.{rules}
 use Rattle.subject.proofs.Returns.{start_cr}
 use Rattle.subject.proofs.visits.cr_start_after.Goals as goal
 

@@ -1,6 +1,5 @@
 -- `subject::visits::event_after` meets its contract.
 -- Assumes nothing.
-use borrow.Author.Rules.{rules}
 use Rattle.subject.proofs.Returns.{progressed, progresses, unevaluable, evaluable_cr, evaluable_pr, evaluable_sd}
 use Rattle.subject.proofs.visits.event_after.Goals as goal
 

@@ -1,6 +1,5 @@
 -- `subject::visits::first_response_after` meets its contract.
 -- Assumes nothing.
-use borrow.Author.Rules.{rules}
 use Rattle.subject.proofs.Returns.{first_cr, first_pr}
 use Rattle.subject.proofs.visits.first_response_after.Goals as goal
 
