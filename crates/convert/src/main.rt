@@ -38,10 +38,7 @@ fn main(rt: HostRuntime) {
     let mut bytes = io::large_buffer();
     let read = input::read_input(&mut rt.stdin(), &mut bytes);
     if read.end < 0 {
-        io::write_all(
-            STANDARD_ERROR,
-            b"convert: standard input cannot be read\n",
-        );
+        io::write_all(STANDARD_ERROR, b"convert: standard input cannot be read\n");
         return;
     }
     print_converted(&bytes[..read.count]);

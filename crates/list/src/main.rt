@@ -10,10 +10,7 @@ fn print_listing(bytes: &[u8]) {
     let mut page = listing_text::blank_page();
     let n = listing::list(bytes, &mut page);
     if !io::write_all(STANDARD_OUTPUT, &page[..n]) {
-        io::write_all(
-            STANDARD_ERROR,
-            b"list: standard output cannot be written\n",
-        );
+        io::write_all(STANDARD_ERROR, b"list: standard output cannot be written\n");
     }
 }
 
@@ -21,10 +18,7 @@ fn main(rt: HostRuntime) {
     let mut bytes = io::large_buffer();
     let read = input::read_input(&mut rt.stdin(), &mut bytes);
     if read.end < 0 {
-        io::write_all(
-            STANDARD_ERROR,
-            b"list: standard input cannot be read\n",
-        );
+        io::write_all(STANDARD_ERROR, b"list: standard input cannot be read\n");
         return;
     }
     print_listing(&bytes[..read.count]);

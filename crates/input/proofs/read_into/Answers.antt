@@ -6,8 +6,7 @@ use Rattle.input.proofs.read_into.Goals as goal
 
 pub loop-count-preserved : goal.loop-count-preserved
 loop-count-preserved g c =
-    let i = c.loop-count.invariant in
-    (
+    let i = c.loop-count.invariant in (
       search rules,
       search rules,
       omega (arith, i, c.loop-count-test.true, c.in-Ok.ensures.bound, c.read.auto.buf),

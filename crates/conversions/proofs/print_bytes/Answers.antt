@@ -1,0 +1,2 @@
+-- `conversions::print_bytes` meets its contract.
+-- Assumes nothing.
