@@ -1,4 +1,4 @@
--- Document 01, "Change in size, file and listing": what reading standard input promises. Of the bytes that a read brings the kit says nothing, so
+-- Document 01, "Change in size, file and listing": what reading standard input promises. Of the bytes that a read of standard input brings the library says nothing, so
 -- that nothing is said of them here.
 -- Assumes nothing.
 use Rattle.std.specs.Prelude.{◌≡◌, List, ℕ, ◌<◌, ◌≤◌, length, drop}

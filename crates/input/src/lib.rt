@@ -1,5 +1,5 @@
-// What standard input holds, to its end or past the longest file (document 01, "Change in size, file and listing"). The programs `list` and
-// `refusals` read by it.
+// What standard input holds, to its end or past the longest file (document 01, "Change in size, file and listing"). The programs `list`, `convert`,
+// `refusals` and `conversions` read by it.
 #![tactic(auto)]
 
 ghost use Rattle.std.specs.Prelude.{◌≡◌, ◌+◌, ◌≤◌, length};
