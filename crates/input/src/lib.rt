@@ -63,3 +63,55 @@ pub fn read_input<R: Read>(reader: &mut R, bytes: &mut [u8; 65536]) -> Input
 {
     read_into(reader, bytes)
 }
+
+#[cfg(test)]
+mod tests {
+    use super::*;
+    use std::io::ErrorKind;
+
+    // Some whole chunks of one byte value, and then a failure or the end.
+    #[derive(Drop)]
+    struct Chunks {
+        left: usize,
+        fails: bool,
+    }
+
+    impl Read for Chunks {
+        fn read(&mut self, buf: &mut [u8]) -> std::io::Result<usize> {
+            if self.left == 0 {
+                if self.fails {
+                    return Err(std::io::Error::from(ErrorKind::Other));
+                }
+                return Ok(0);
+            }
+            self.left -= 1;
+            buf.fill(7);
+            Ok(buf.len())
+        }
+    }
+
+    // The number of chunks, whether a failure is behind them, and what is answered. A 13th chunk brings more bytes than a file may have.
+    #[test]
+    fn a_failed_read_is_no_end_of_input(rt: HostRuntime) {
+        for (left, fails, end, count) in [
+            (0, true, -1, 0),
+            (0, false, 0, 0),
+            (2, true, -1, 8192),
+            (2, false, 0, 8192),
+            (12, true, -1, 49152),
+            (13, true, 1, 53248),
+        ] {
+            let mut bytes = [0; 65536];
+            let read = read_input(&mut Chunks { left, fails }, &mut bytes);
+            assert_eq!(rt; read.end, end, "after {left} chunks");
+            assert_eq!(rt; read.count, count, "after {left} chunks");
+            let last = count.saturating_sub(1);
+            assert_eq!(rt;
+                bytes[last],
+                if count == 0 { 0 } else { 7 },
+                "after {left} chunks"
+            );
+            assert_eq!(rt; bytes[count], 0, "after {left} chunks");
+        }
+    }
+}
