@@ -6,7 +6,8 @@ use mathlib.Core.List.{List, ◌∷◌, ◌++◌}
 use Prim.Native.Nat.{ℕ, ◌+◌, ◌-◌}
 use native.Mathlib.Omega.{arith}
 use lib.Dec.{leb, eqb}
-use borrow.Author.Tests.{eqb-true, not-true, not-false}
+use borrow.Author.Tests.{eqb-true}
+use Rattle.std.specs.Prelude.{Result}
 use Rattle.laws.specs.Choice.{both, pick}
 use Rattle.laws.specs.Refusals.{◌when◌, first}
 use Rattle.laws.proofs.Tests.{both_true}
@@ -14,15 +15,13 @@ use Rattle.laws.proofs.FirstRefusal.{none_of_both}
 use Rattle.laws.specs.Layout.{AreBytes}
 use Rattle.dates.specs.declared.Date.{Date}
 use Rattle.dates.specs.declared.StudyDay.{StudyDay}
-use Rattle.dates.specs.declared.StudyDayAnswer.{StudyDayAnswer}
-use Rattle.dates.specs.declared.StudyDayAnswer.TheVariants as T
+use Rattle.dates.specs.declared.StudyDayRefusal.{StudyDayRefusal}
 use Rattle.dates.specs.Calendar.{date_exists, day_number}
 use Rattle.dates.specs.Answers.{Counted, counted, refused, study_day_values, study_day_of}
 use Rattle.records.specs.declared.Entry.TheVariants as E
 use Rattle.records.specs.declared.Record.{Record}
-use Rattle.records.specs.declared.CheckAnswer.{CheckAnswer}
 use Rattle.records.specs.Entries.{date_of}
-use Rattle.records.specs.Refusals.{check_number, refusals_of_fields, ChecksVisit, refusals_of_read, refusal_of_record}
+use Rattle.records.specs.Refusals.{refusals_of_fields, refusals_of_read}
 use Rattle.records.proofs.NoOwnRefusal.{after_own}
 use Rattle.records.specs.Forms.{new_form, new_unit}
 use Rattle.codec.specs.declared.VisitFields.{VisitFields}
@@ -31,7 +30,7 @@ use Rattle.codec.proofs.NoRefusalOfBytes.{bytes_numbered, after_reading}
 use Rattle.codec.proofs.VisitFieldsRead.{found_date, is_visit}
 use Rattle.subject.specs.declared.Subject.{Subject}
 use Rattle.subject.specs.Range.{enrolment_in_range, follow_up_in_range, in_range}
-use Rattle.adding.specs.declared.AddAnswer.{AddAnswer}
+use Rattle.adding.specs.declared.AddRefusal.{AddRefusal}
 use Rattle.adding.specs.declared.AddResult.{AddResult}
 use Rattle.adding.specs.declared.Dated.{Dated}
 use Rattle.adding.specs.declared.Step.{Step}
@@ -42,16 +41,6 @@ use Rattle.adding.specs.Promises.{study_day_held, refusals_of_record_held, Answe
 use Rattle.adding.specs.Stepping.{DatedAs, DatedFrom, refusal_of_step_held, Steps}
 
 -- ---- a date that was counted
-
-module _ (a : StudyDayAnswer) where
-  pub exists_day : (d : StudyDay) → a ≡ T.Day d → true ≡ not (eqb (study_day_values a).refusal 3)
-  exists_day d q = rw q
-
-  pub exists_before : a ≡ T.BeforeRandomisation → true ≡ not (eqb (study_day_values a).refusal 3)
-  exists_before q = rw q
-
-  pub exists_none : a ≡ T.NoSuchDate → false ≡ not (eqb (study_day_values a).refusal 3)
-  exists_none q = rw q
 
 -- with a randomisation date that exists, 3 is the date's
 counted_refusal : (d randomisation : Date) → date_exists randomisation ≡ true → eqb (study_day_of d randomisation).refusal 3 ≡ not (date_exists d)
@@ -65,17 +54,6 @@ counted_refusal d randomisation e = rw e (go (date_exists d) (leb (day_number ra
 
 -- ---- the own refusal of a visit
 
-module _ (counted : StudyDayAnswer) (v : VisitFields) (x : Bool) (xq : x ≡ not (eqb (study_day_values counted).refusal 3)) where
-  abbrev own : ℕ
-  own = first (refusals_of_fields new_unit (eqb (study_day_values counted).refusal 3) (E.Visit v.entry) v.measured v.sizes v.badstatus v.spare)
-
-  pub own_no_date : not x ≡ true → 3 ≡ own
-  own_no_date h = let q = not-false (eqb (study_day_values counted).refusal 3) (sym xq ∙ not-true x h) in rw q
-
-  pub own_by_fields : (a : AddAnswer) (c : CheckAnswer) → not x ≡ false → ChecksVisit v.measured v.sizes v.badstatus v.spare c →
-      add_number a ≡ check_number c → add_number a ≡ own
-  own_by_fields a c h w q = let n = not-true (eqb (study_day_values counted).refusal 3) (sym xq ∙ not-false x h) in q ∙ w v.entry ∙ rw n
-
 -- 3, then 4 and 5
 by_date : (v : VisitFields) →
     refusals_of_raw new_unit (raw_visit v) ≡ refusals_of_fields new_unit (not (date_exists v.entry.date)) (E.Visit v.entry) v.measured v.sizes v.badstatus v.spare
@@ -84,7 +62,7 @@ by_date v = refl
 
 -- ---- a record on its study day
 
-module _ (randomisation : Date) (bytes : List ℕ) (v : VisitFields) (counted : StudyDayAnswer) (day : StudyDay) (x : Dated) (w : ReadsVisit bytes v)
+module _ (randomisation : Date) (bytes : List ℕ) (v : VisitFields) (counted : Result StudyDay StudyDayRefusal) (day : StudyDay) (x : Dated) (w : ReadsVisit bytes v)
     (cq : study_day_values counted ≡ study_day_of v.entry.date randomisation) (dq : day.0 ≡ (study_day_values counted).day) where
   date_read : v.entry.date ≡ (visit_fields_of bytes).entry.date
   date_read = ap (λ f. f.entry.date) w.fields
@@ -95,7 +73,7 @@ module _ (randomisation : Date) (bytes : List ℕ) (v : VisitFields) (counted : 
   on_the_day : refusal_of_bytes new_form bytes ≡ 0 → day ≡ held_day randomisation (date_of (record_of_bytes new_form bytes).entry)
   on_the_day e = held ∙ ap (held_day randomisation) (date_read ∙ sym (found_date bytes e))
 
-  pub visit_dated_lem : (own : AddAnswer) → v.isvisit ≡ true →
+  pub visit_dated_lem : (own : Result (Unit {0}) AddRefusal) → v.isvisit ≡ true →
       add_number own ≡ first (refusals_of_fields new_unit (eqb (study_day_values counted).refusal 3) (E.Visit v.entry) v.measured v.sizes v.badstatus v.spare) →
       (x.day ≡ day) × (x.own ≡ own) × (x.found ≡ (raw_visit v).read) → DatedFrom randomisation bytes x
   visit_dated_lem own h oq q =
@@ -111,16 +89,6 @@ module _ (randomisation : Date) (bytes : List ℕ) (v : VisitFields) (counted : 
   pub other_dated : (x.day ≡ day) × (add_number x.own ≡ refusal_of_bytes new_form bytes) × (x.found ≡ record_of_bytes new_form bytes) × AreBytes bytes →
       DatedFrom randomisation bytes x
   other_dated q = record { own = λ e. q.1; day = λ e. q.0 ∙ on_the_day e; found = λ e. q.2; octets = w.octets }
-
-pub value_dated : (randomisation date : Date) (r : Record) (counted : StudyDayAnswer) (day : StudyDay) (own : AddAnswer) (c : CheckAnswer) →
-    date ≡ date_of r.entry → study_day_values counted ≡ study_day_of date randomisation → day.0 ≡ (study_day_values counted).day → check_number c ≡ refusal_of_record new_unit r →
-    add_number own ≡ check_number c → DatedAs randomisation r (record { day = day; own = own; found = r })
-value_dated randomisation date r counted day own c e cq dq rq oq =
-    record {
-      day = ap (λ (n : ℕ). record { 0 = n }) (dq ∙ ap (λ (c : Counted). c.day) cq) ∙ ap (held_day randomisation) e;
-      own = oq ∙ rq;
-      found = refl;
-    }
 
 -- ---- the calls
 

@@ -1,5 +1,5 @@
 pub mod HeldFollowsRecords
 pub mod SubjectKeptInRange
-mod Returns
+pub mod Returns
 mod AddingAnswers
 pub mod WorkedExamples

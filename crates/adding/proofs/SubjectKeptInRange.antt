@@ -7,6 +7,7 @@ use Prim.Native.Nat.{ℕ, ◌+◌, ◌-◌, ◌≤◌, min}
 use native.Mathlib.Omega.{arith}
 use lib.Dec.{leb, ltb}
 use borrow.Author.Tests.{leb-false, ltb-false}
+use Rattle.std.specs.Prelude.{Option, Some}
 use Rattle.laws.specs.Choice.{both, pick}
 use Rattle.laws.specs.Refusals.{first, Each}
 use Rattle.laws.proofs.FirstRefusal.{none_meets}
@@ -24,8 +25,6 @@ use Rattle.response_rules.specs.Nadir.{after_visit}
 use Rattle.response_rules.specs.Inputs.{Visit, visit_of}
 use Rattle.response_rules.specs.declared.BaselineDisease.{BaselineDisease}
 use Rattle.response_rules.specs.declared.Earlier.{Earlier}
-use Rattle.outcome_rules.specs.declared.MaybeDay.{MaybeDay}
-use Rattle.outcome_rules.specs.declared.MaybeDay.TheVariants as M
 use Rattle.outcome_rules.specs.StudyRecords.{study_day}
 use Rattle.subject.specs.declared.Enrolment.{Enrolment}
 use Rattle.subject.specs.declared.FollowUp.{FollowUp}
@@ -69,7 +68,7 @@ nadir_least b earlier v = go (all_measured b.count v.measured)
     go true = omega arith
     go false = omega arith
 
-later_within : (f : FollowUp) (day : StudyDay) (therapy : Bool) (death : MaybeDay) → FollowUpWithin f → Within day.0 → AbsentOrWithin death →
+later_within : (f : FollowUp) (day : StudyDay) (therapy : Bool) (death : Option StudyDay) → FollowUpWithin f → Within day.0 → AbsentOrWithin death →
     FollowUpWithin (on_later_day f day therapy death)
 later_within f day therapy death w d a = record { nadir = w.nadir; latestday = d; deathday = a; event = w.event; counting = w.counting }
 
@@ -109,4 +108,4 @@ adding_within e f (E.Therapy d) marks sizes w r =
     later_within f _ true f.deathday w day w.deathday
 adding_within e f (E.Death d) marks sizes w r =
     let day = on_or_after e.randomisation f d w (not_early e f (held_day e.randomisation d) (E.Death d) marks r) in
-    later_within f _ f.therapyrecorded (M.On (held_day e.randomisation d)) w day day
+    later_within f _ f.therapyrecorded (Some (held_day e.randomisation d)) w day day

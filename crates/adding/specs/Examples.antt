@@ -1,7 +1,7 @@
 -- Document 01, "Where a call stops", 1 to 5 and 8 to 12, "Outcome" and "Visit responses": the numbers of the cases, which refusal comes first, the subject
 -- after one record more and the responses at a visit. Proved in proofs/WorkedExamples.antt.
 -- Assumes nothing.
-use Rattle.std.specs.Prelude.{◌≡◌, true, false, List, [], ◌∷◌, map, ℕ}
+use Rattle.std.specs.Prelude.{◌≡◌, true, false, List, [], ◌∷◌, map, ℕ, Some, None, Ok, Err}
 use Rattle.dates.specs.Laws.{ymd}
 use Rattle.records.specs.Examples.{visit_dated, therapy_dated, death_dated}
 use Rattle.codec.specs.Examples.{thirteen, printed_bytes, printed_visit_bytes}
@@ -13,9 +13,8 @@ use Rattle.response_rules.specs.Words.{CR, PR, PD, NE, NA, NN}
 use Rattle.response_rules.specs.Change.{none, signed}
 use Rattle.response_rules.specs.declared.TargetAnswer.TheVariants as T
 use Rattle.response_rules.specs.declared.OverallAnswer.TheVariants as O
-use Rattle.response_rules.specs.declared.ChangeAnswer.TheVariants as C
+use Rattle.response_rules.specs.declared.Change.TheVariants as C
 use Rattle.outcome_rules.specs.declared.BestResponse.TheVariants as B
-use Rattle.outcome_rules.specs.declared.MaybeDay.TheVariants as M
 use Rattle.outcome_rules.specs.AddingExamples.{printed_baseline, printed_visit43}
 use Rattle.subject.specs.declared.Subject.{Subject}
 use Rattle.subject.specs.declared.CountingVisits.{CountingVisits}
@@ -23,18 +22,18 @@ use Rattle.subject.specs.HeldExamples.{day, on_day, events, counts, no_events, n
 use Rattle.adding.specs.Responses.{add_responses}
 use Rattle.adding.specs.Refusals.{add_number}
 use Rattle.adding.specs.Promises.{refusals_of_record_held, responses_held, added_held, responses_by, subject_by, refusal_of_adding_held, refusal_of_adding_bytes_held}
-use Rattle.adding.specs.declared.AddAnswer.{AddAnswer}
-use Rattle.adding.specs.declared.AddAnswer.TheVariants as A
+use Rattle.adding.specs.Refusals.{AddAnswer}
+use Rattle.adding.specs.declared.AddRefusal.TheVariants as A
 use Rattle.adding.specs.declared.VisitResponse.{VisitResponse}
 
 -- the responses at a visit of day 85
 abbrev pub responses85 : VisitResponse
-responses85 = record { day = day 85; target = T.CR; nontarget = S.NN; overall = O.PR; change = C.Decrease 850 }
+responses85 = record { day = day 85; target = T.CR; nontarget = S.NN; overall = O.PR; change = Some (C.Decrease 850) }
 
 abbrev pub cases : List AddAnswer
 cases =
-    A.Done ∷ A.Judged responses85 ∷ A.WrongLength ∷ A.NoSuchKind ∷ A.Refused N.NotZero ∷ A.SecondBaseline ∷ A.AfterDeath ∷ A.TooEarly ∷ A.Misfit
-    ∷ A.OutOfRange ∷ []
+    Ok None ∷ Ok (Some responses85) ∷ Err A.WrongLength ∷ Err A.NoSuchKind ∷ Err (A.Own N.NotZero) ∷ Err A.SecondBaseline ∷ Err A.AfterDeath
+    ∷ Err A.TooEarly ∷ Err A.Misfit ∷ Err A.OutOfRange ∷ []
 
 pub record NumbersOfCases : Type 0 where
   -- 1 and 2; the record's own number, here 5; 8 a baseline; 9 after a death; 10 day too early; 11 visit doesn't fit baseline; 12
@@ -46,23 +45,23 @@ pub record NumbersOfCases : Type 0 where
 
 -- after the printed baseline and its visit of day 43: a therapy of day 50; a death of day 50; and with a progression of day 43
 abbrev pub response43 : CountingVisits
-response43 = counts (on_day 43) M.Absent B.SD
+response43 = counts (on_day 43) None B.SD
 
 abbrev pub after_therapy50 : Subject
-after_therapy50 = printed_with 360 50 true M.Absent (events M.Absent 43 (on_day 43)) response43
+after_therapy50 = printed_with 360 50 true None (events None 43 (on_day 43)) response43
 
 abbrev pub after_death50 : Subject
-after_death50 = printed_with 360 50 false (on_day 50) (events M.Absent 43 (on_day 43)) response43
+after_death50 = printed_with 360 50 false (on_day 50) (events None 43 (on_day 43)) response43
 
 abbrev pub progressed : Subject
-progressed = printed_with 360 43 false M.Absent (events (on_day 43) 1 M.Absent) (counts M.Absent M.Absent B.PD)
+progressed = printed_with 360 43 false None (events (on_day 43) 1 None) (counts None None B.PD)
 
 -- after a baseline without non-target disease, and after a missing one
 abbrev pub without_nontarget : Subject
-without_nontarget = subject_with (ymd 2020 1 1) false (disease true 2 600) 600 1 false M.Absent no_events no_counts
+without_nontarget = subject_with (ymd 2020 1 1) false (disease true 2 600) 600 1 false None no_events no_counts
 
 abbrev pub baseline_missing : Subject
-baseline_missing = subject_with (ymd 2020 1 1) false (disease false 0 0) 0 1 false M.Absent no_events no_counts
+baseline_missing = subject_with (ymd 2020 1 1) false (disease false 0 0) 0 1 false None no_events no_counts
 
 -- 2020-03-25, which is day 85: 24.0 and 12.0 mm, NN
 abbrev pub visit85 : Record
@@ -93,12 +92,12 @@ pub record AddedAtTheEdges : Type 0 where
   pub therapy : added_held printed_after_visit43 (therapy_dated (ymd 2020 2 19)) ≡ after_therapy50
   pub death : added_held printed_after_visit43 (death_dated (ymd 2020 2 19)) ≡ after_death50
   -- after a therapy v and the last evaluable visit move, and no visit counts
-  pub after_therapy : added_held after_therapy50 visit85 ≡ printed_with 360 85 true M.Absent (events M.Absent 85 (on_day 85)) response43
+  pub after_therapy : added_held after_therapy50 visit85 ≡ printed_with 360 85 true None (events None 85 (on_day 85)) response43
   -- after a progression the latest day alone moves
   pub after_progression : added_held progressed visit85
-      ≡ printed_with 360 85 false M.Absent (events (on_day 43) 1 M.Absent) (counts M.Absent M.Absent B.PD)
+      ≡ printed_with 360 85 false None (events (on_day 43) 1 None) (counts None None B.PD)
   -- a therapy stays recorded behind it
-  pub death_after_therapy : added_held after_therapy50 (death_dated (ymd 2020 2 19)) ≡ printed_with 360 50 true (on_day 50) (events M.Absent 43 (on_day 43)) response43
+  pub death_after_therapy : added_held after_therapy50 (death_dated (ymd 2020 2 19)) ≡ printed_with 360 50 true (on_day 50) (events None 43 (on_day 43)) response43
 
 pub record LinesAtTheEdges : Type 0 where
   -- V 43 PR NN PR -40.0; therapy and death print no line of their own
@@ -121,7 +120,7 @@ pub record LinesAtTheEdges : Type 0 where
 
 -- a subject out of range by its latest day
 abbrev pub outside : Subject
-outside = printed_with 600 0 false M.Absent no_events no_counts
+outside = printed_with 600 0 false None no_events no_counts
 
 -- by value: 12, then 3 to 5, then 8 to 11
 pub record OrderByValue : Type 0 where

@@ -1,6 +1,6 @@
 -- Document 01, "Visit responses" and "Outcome": what is held after one record more. The enrolment stays as it is.
 -- Assumes nothing.
-use Rattle.std.specs.Prelude.{ℕ, Bool, true, List}
+use Rattle.std.specs.Prelude.{ℕ, Bool, true, List, Option, Some}
 use Rattle.laws.specs.Choice.{either, pick}
 use Rattle.dates.specs.declared.Date.{Date}
 use Rattle.dates.specs.declared.StudyDay.{StudyDay}
@@ -14,8 +14,6 @@ use Rattle.response_rules.specs.Nadir.{after_visit}
 use Rattle.response_rules.specs.VisitAnswers.{overall_answer}
 use Rattle.response_rules.specs.declared.Earlier.{Earlier}
 use Rattle.response.specs.declared.VisitAnswer.{VisitAnswer}
-use Rattle.outcome_rules.specs.declared.MaybeDay.{MaybeDay}
-use Rattle.outcome_rules.specs.declared.MaybeDay.TheVariants as M
 use Rattle.outcome_rules.specs.Values.{is_recorded, day_value}
 use Rattle.outcome_rules.specs.StudyRecords.{study_day}
 use Rattle.outcome_rules.specs.Course.{Judged}
@@ -58,7 +56,7 @@ visit_added e f day v measured sizes =
     judged_added f (after_visit e.disease f.earlier (visit_of v measured sizes)) (judged_held e f day v measured sizes)
 
 -- on a later day, with or without a therapy and a death; nothing of the visits changes
-abbrev pub on_later_day : FollowUp → StudyDay → Bool → MaybeDay → FollowUp
+abbrev pub on_later_day : FollowUp → StudyDay → Bool → Option StudyDay → FollowUp
 on_later_day f day therapy death =
     record { earlier = f.earlier; latestday = day; therapyrecorded = therapy; deathday = death; event = f.event; counting = f.counting }
 
@@ -66,7 +64,7 @@ unfoldable pub therapy_added : FollowUp → StudyDay → FollowUp
 therapy_added f day = on_later_day f day true f.deathday
 
 unfoldable pub death_added : FollowUp → StudyDay → FollowUp
-death_added f day = on_later_day f day f.therapyrecorded (M.On day)
+death_added f day = on_later_day f day f.therapyrecorded (Some day)
 
 -- after a record on its study day; no baseline comes to be added
 abbrev pub entry_added : Enrolment → FollowUp → StudyDay → Entry → List Bool → List ℕ → FollowUp

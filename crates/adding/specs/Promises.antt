@@ -13,7 +13,7 @@ use Rattle.codec.specs.Reading.{refusals_of_bytes, record_of_bytes}
 use Rattle.outcome_rules.specs.VisitLines.{VisitLine}
 use Rattle.subject.specs.declared.Subject.{Subject}
 use Rattle.subject.specs.Range.{in_range}
-use Rattle.adding.specs.declared.AddAnswer.{AddAnswer}
+use Rattle.adding.specs.Refusals.{AddAnswer}
 use Rattle.adding.specs.OneRecordMore.{held_day, entry_added}
 use Rattle.adding.specs.Responses.{add_responses, lines_held}
 use Rattle.adding.specs.Refusals.{add_number, refusals_of_entry_held}

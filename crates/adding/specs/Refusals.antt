@@ -1,6 +1,6 @@
 -- Document 01, "Where a call stops", 8 to 11, judged on the held subject.
 -- Assumes nothing.
-use Rattle.std.specs.Prelude.{ℕ, Bool, false, not, List, [], ◌∷◌, leb, ltb, eqb}
+use Rattle.std.specs.Prelude.{ℕ, Bool, false, not, List, [], ◌∷◌, leb, ltb, eqb, Option, Result, Ok, Err}
 use Rattle.laws.specs.Refusals.{Refusal, ◌when◌}
 use Rattle.dates.specs.declared.StudyDay.{StudyDay}
 use Rattle.records.specs.declared.Entry.{Entry}
@@ -11,21 +11,29 @@ use Rattle.outcome_rules.specs.Values.{is_recorded, day_value}
 use Rattle.outcome_rules.specs.LawfulLists.{fits_by}
 use Rattle.subject.specs.declared.Enrolment.{Enrolment}
 use Rattle.subject.specs.declared.FollowUp.{FollowUp}
-use Rattle.adding.specs.declared.AddAnswer.{AddAnswer}
-use Rattle.adding.specs.declared.AddAnswer.TheVariants as A
+use Rattle.adding.specs.declared.VisitResponse.{VisitResponse}
+use Rattle.adding.specs.declared.AddRefusal.{AddRefusal}
+use Rattle.adding.specs.declared.AddRefusal.TheVariants as A
 
--- the number of each case in document 01; 0 where no refusal meets
-abbrev pub add_number : AddAnswer → ℕ
-add_number A.Done = 0
-add_number (A.Judged v) = 0
-add_number A.WrongLength = 1
-add_number A.NoSuchKind = 2
-add_number A.SecondBaseline = 8
-add_number A.AfterDeath = 9
-add_number A.TooEarly = 10
-add_number A.Misfit = 11
-add_number A.OutOfRange = 12
-add_number (A.Refused own) = own_number own
+-- the responses where a visit was added, none where a therapy or a death was, or a refusal
+abbrev pub AddAnswer : Type 0
+AddAnswer = Result (Option VisitResponse) AddRefusal
+
+-- the number of each case in document 01
+abbrev pub refusal_number : AddRefusal → ℕ
+refusal_number A.WrongLength = 1
+refusal_number A.NoSuchKind = 2
+refusal_number A.SecondBaseline = 8
+refusal_number A.AfterDeath = 9
+refusal_number A.TooEarly = 10
+refusal_number A.Misfit = 11
+refusal_number A.OutOfRange = 12
+refusal_number (A.Own own) = own_number own
+
+-- 0 where no refusal meets
+abbrev pub add_number : {A : Type 0} → Result A AddRefusal → ℕ
+add_number (Ok x) = 0
+add_number (Err refusal) = refusal_number refusal
 
 -- each visit is later than the latest day so far, each therapy or death on or after it
 abbrev pub too_early_held : FollowUp → StudyDay → Entry → Bool

@@ -1,7 +1,7 @@
 -- Document 01, "Visit responses" and "Change in size, file and listing": the responses at a visit judged on the held subject. A visit's line of the listing
 -- has these values.
 -- Assumes nothing.
-use Rattle.std.specs.Prelude.{Bool, List, [], ◌∷◌, ℕ}
+use Rattle.std.specs.Prelude.{Bool, List, [], ◌∷◌, ℕ, Some, None, Ok, Err}
 use Rattle.dates.specs.declared.StudyDay.{StudyDay}
 use Rattle.records.specs.declared.Entry.{Entry}
 use Rattle.records.specs.declared.Entry.TheVariants as E
@@ -14,8 +14,7 @@ use Rattle.response_rules.specs.Change.{change_values, change_of}
 use Rattle.outcome_rules.specs.VisitLines.{VisitLine}
 use Rattle.subject.specs.declared.Enrolment.{Enrolment}
 use Rattle.subject.specs.declared.FollowUp.{FollowUp}
-use Rattle.adding.specs.declared.AddAnswer.{AddAnswer}
-use Rattle.adding.specs.declared.AddAnswer.TheVariants as A
+use Rattle.adding.specs.Refusals.{AddAnswer}
 use Rattle.adding.specs.declared.VisitResponse.{VisitResponse}
 use Rattle.adding.specs.OneRecordMore.{overall_held}
 
@@ -32,16 +31,9 @@ response_values v =
 
 -- what an answer has of a visit; a refusal carries its number and nothing else
 abbrev pub add_responses : AddAnswer → List VisitLine
-add_responses A.Done = []
-add_responses (A.Judged v) = response_values v ∷ []
-add_responses A.WrongLength = []
-add_responses A.NoSuchKind = []
-add_responses A.SecondBaseline = []
-add_responses A.AfterDeath = []
-add_responses A.TooEarly = []
-add_responses A.Misfit = []
-add_responses A.OutOfRange = []
-add_responses (A.Refused own) = []
+add_responses (Ok None) = []
+add_responses (Ok (Some v)) = response_values v ∷ []
+add_responses (Err refusal) = []
 
 abbrev pub line_held : Enrolment → FollowUp → StudyDay → VisitEntry → List Bool → List ℕ → VisitLine
 line_held e f day v measured sizes =

@@ -6,8 +6,7 @@ ghost use Rattle.subject.specs.OneVisitMore.{counting_after};
 ghost use Rattle.adding.specs.OneRecordMore.{judged_as, judged_added, on_later_day, therapy_added, death_added};
 
 use dates::StudyDay;
-use outcome_rules::{JudgedVisit, MaybeDay};
-use outcome_values::is_recorded;
+use outcome_rules::JudgedVisit;
 use response::VisitAnswer;
 use subject::{CountingVisits, FollowUp, counting_after, event_after};
 
@@ -23,55 +22,42 @@ fn counting_unless(closed: bool, c: CountingVisits, visit: JudgedVisit) -> Count
 pub(crate) fn after_visit(f: FollowUp, day: StudyDay, judged: VisitAnswer) -> FollowUp
     ensures { result ≡ judged_added f judged.after (judged_as day judged) }
 {
-    let death = f.deathday;
-    let before = f.event;
-    let progression = before.progression;
-    let shown = f.counting;
-    let answer = judged.overall;
-    let after = judged.after;
-    let closed = f.therapyrecorded | is_recorded(progression);
+    let closed = f.therapyrecorded | f.event.progression.is_some();
     let visit = JudgedVisit {
-        day: day,
-        answer: answer,
+        day,
+        answer: judged.overall,
     };
-    let event = event_after(before, visit);
-    let counting = counting_unless(closed, shown, visit);
     FollowUp {
-        earlier: after,
+        earlier: judged.after,
         latestday: day,
-        therapyrecorded: f.therapyrecorded,
-        deathday: death,
-        event: event,
-        counting: counting,
+        event: event_after(f.event, visit),
+        counting: counting_unless(closed, f.counting, visit),
+        ..f
     }
 }
 
 // On a later day, with or without a therapy and a death.
-fn on_later_day(f: FollowUp, day: StudyDay, therapy: bool, death: MaybeDay) -> FollowUp
+fn on_later_day(f: FollowUp, day: StudyDay, therapy: bool, death: Option<StudyDay>) -> FollowUp
     ensures { result ≡ on_later_day f day therapy death }
 {
-    let earlier = f.earlier;
-    let event = f.event;
-    let counting = f.counting;
     FollowUp {
-        earlier: earlier,
         latestday: day,
         therapyrecorded: therapy,
         deathday: death,
-        event: event,
-        counting: counting,
+        ..f
     }
 }
 
+#[tactic(auto, unfolding(crate::specs::OneRecordMore::therapy_added))]
 pub(crate) fn after_therapy(f: FollowUp, day: StudyDay) -> FollowUp
     ensures { result ≡ therapy_added f day }
 {
-    let death = f.deathday;
-    on_later_day(f, day, true, death)
+    on_later_day(f, day, true, f.deathday)
 }
 
+#[tactic(auto, unfolding(crate::specs::OneRecordMore::death_added))]
 pub(crate) fn after_death(f: FollowUp, day: StudyDay) -> FollowUp
     ensures { result ≡ death_added f day }
 {
-    on_later_day(f, day, f.therapyrecorded, MaybeDay::On(day))
+    on_later_day(f, day, f.therapyrecorded, Some(day))
 }

@@ -8,38 +8,34 @@ use super::dating::{dated, dated_bytes};
 use super::stepping::step;
 use super::{AddAnswer, AddResult, Step};
 use records::Record;
-use subject::{Enrolment, FollowUp, Subject};
+use subject::{Enrolment, Subject};
 
-fn in_range(e: Enrolment, f: FollowUp) -> bool
-    ensures { result ≡ both (enrolment_in_range e) (follow_up_in_range f) }
+fn in_range(s: Subject) -> bool
+    ensures { result ≡ both (enrolment_in_range s.enrolment) (follow_up_in_range s.followup) }
 {
-    subject::enrolment_in_range(e) && subject::followup_in_range(f)
+    subject::enrolment_in_range(s.enrolment) && subject::followup_in_range(s.followup)
 }
 
 fn moved(e: Enrolment, s: Step) -> AddResult
     ensures { (result.answer ≡ s.answer) × (result.subject ≡ record { enrolment = e; followup = s.followup }) }
 {
-    let next = s.followup;
-    let answer = s.answer;
     let subject = Subject {
         enrolment: e,
-        followup: next,
+        followup: s.followup,
     };
     AddResult {
-        subject: subject,
-        answer: answer,
+        subject,
+        answer: s.answer,
     }
 }
 
 pub fn added(s: Subject, r: Record) -> AddResult
     ensures { Adds s r result.answer result.subject }
 {
-    let enrolment = s.enrolment;
-    let followup = s.followup;
-    let inside = in_range(enrolment, followup);
-    let on_its_day = dated(enrolment.randomisation, r);
-    let stepped = step(inside, enrolment, followup, on_its_day);
-    moved(enrolment, stepped)
+    let inside = in_range(s);
+    let on_its_day = dated(s.enrolment.randomisation, r);
+    let stepped = step(inside, s.enrolment, s.followup, on_its_day);
+    moved(s.enrolment, stepped)
 }
 
 // The same on a subject that the caller keeps.
@@ -54,10 +50,8 @@ pub fn add(subject: &mut Subject, r: Record) -> AddAnswer
 pub fn add_bytes(s: Subject, bytes: &[u8]) -> AddResult
     ensures { AddsBytes s bytes.now result.answer result.subject }
 {
-    let enrolment = s.enrolment;
-    let followup = s.followup;
-    let inside = in_range(enrolment, followup);
-    let on_its_day = dated_bytes(enrolment.randomisation, bytes);
-    let stepped = step(inside, enrolment, followup, on_its_day);
-    moved(enrolment, stepped)
+    let inside = in_range(s);
+    let on_its_day = dated_bytes(s.enrolment.randomisation, bytes);
+    let stepped = step(inside, s.enrolment, s.followup, on_its_day);
+    moved(s.enrolment, stepped)
 }

@@ -2,11 +2,9 @@
 -- Assumes nothing.
 use mathlib.Core.Path.{◌≡◌, ◌∙◌, ap}
 use mathlib.Core.List.{List}
-use Prim.Native.Nat.{ℕ, ◌+◌, ◌-◌, ◌*◌, ◌/◌, ◌%◌, ◌^◌, ◌≤◌, ◌<◌}
-use native.Mathlib.Nat.{one-mul, mod-lt, lt_of_lt_of_le}
+use Prim.Native.Nat.{ℕ, ◌+◌, ◌-◌, ◌*◌, ◌/◌, ◌%◌, ◌^◌, ◌≤◌}
 use native.Mathlib.Omega.{arith}
 use lib.ListN.{length}
-use lib.Pow.{pow_pos, pow_mono, shl_exact}
 use Rattle.laws.specs.Layout.{leading, AreBytes, before}
 use Rattle.laws.proofs.FieldOfBytes.{leading_all, three_last, field_at_lem}
 use Rattle.records.specs.Forms.{Form}
@@ -14,15 +12,6 @@ use Rattle.codec.specs.Bytes.{bytes_number}
 use Rattle.codec.specs.Fields.{field_at}
 
 -- a power of two by a shift
-pub shifted_one : (width : ℕ) → width ≤ 16 → 1 * 2 ^ width % 2 ^ 32 ≡ 2 ^ width
-shifted_one width h = shl_exact 1 width 32 (omega arith) (omega arith) ∙ one-mul (2 ^ width)
-
-pub shifted_pos : (width : ℕ) → width ≤ 16 → 0 < 1 * 2 ^ width % 2 ^ 32
-shifted_pos width h = rw (shifted_one width h) (pow_pos width)
-
-pub bits_lt : (n width : ℕ) → width ≤ 16 → n % (1 * 2 ^ width % 2 ^ 32) < 2 ^ 16
-bits_lt n width h = rw (shifted_one width h) (lt_of_lt_of_le (mod-lt n (pow_pos width)) (pow_mono h))
-
 module _ (form : Form) (s : List ℕ) (b : AreBytes s) (l : length s ≡ form.record_length) where
   bytes_leading : leading s form.record_length ≡ bytes_number form s
   unfolding bytes_number

@@ -2,7 +2,8 @@ pub mod AtTheEdges
 pub mod AtTheEdgesOfParts
 pub mod PartsJoined
 pub mod FieldOfThreeBytes
-pub mod SomeFieldSet
+pub mod FieldsByBits
+pub mod SomeByteSet
 pub mod Returns
 pub mod FiveMarksAndSizes
 pub mod NoRefusalOfBytes

@@ -1,7 +1,7 @@
 -- Document 01, "Dates and records": the bytes of records of each kind, worked out by hand from the widths, and the records that are read from them; and
 -- "Where a call stops", which of 1 to 5 comes first, their numbers, the blank record beside a refusal, and what bytes have as a visit. Proved in proofs/AtTheEdges.antt.
 -- Assumes nothing.
-use Rattle.std.specs.Prelude.{◌≡◌, Bool, true, false, List, [], ◌∷◌, map, ℕ}
+use Rattle.std.specs.Prelude.{◌≡◌, Bool, true, false, List, [], ◌∷◌, map, ℕ, Ok, Err}
 use Rattle.dates.specs.Laws.{ymd}
 use Rattle.dates.specs.declared.Date.{Date}
 use Rattle.records.specs.Examples.{filled, baseline_dated, visit_dated, therapy_dated, death_dated}
@@ -15,7 +15,7 @@ use Rattle.codec.specs.Bytes.{record_length, bytes_of}
 use Rattle.codec.specs.Fields.{field_at, targets_at}
 use Rattle.codec.specs.RawWith.{raw_with}
 use Rattle.codec.specs.Reading.{read_number, refusal_of_bytes, record_of_bytes, visit_fields_of}
-use Rattle.codec.specs.declared.ReadAnswer.TheVariants as A
+use Rattle.codec.specs.declared.ReadRefusal.TheVariants as R
 use Rattle.codec.specs.declared.VisitFields.{VisitFields}
 
 -- a record's bytes, the first of them as given
@@ -126,7 +126,7 @@ pub record FirstRefusals : Type 0 where
   pub last_of_death : refusal_of_bytes new_form (0x8F ∷ 0xC8 ∷ 0x54 ∷ 0 ∷ 0 ∷ 0 ∷ 0 ∷ 0 ∷ 0 ∷ 0 ∷ 0 ∷ 0 ∷ 0x01 ∷ []) ≡ 5
   pub bytes : record_length ≡ 13
   -- 1 not 13 bytes; 2 kind not 1 to 4; 3 to 5
-  pub numbers : map read_number (A.Done ∷ A.WrongLength ∷ A.NoSuchKind ∷ A.Refused O.NotZero ∷ []) ≡ 0 ∷ 1 ∷ 2 ∷ 5 ∷ []
+  pub numbers : map read_number (Ok tt ∷ Err R.WrongLength ∷ Err R.NoSuchKind ∷ Err (R.Own O.NotZero) ∷ []) ≡ 0 ∷ 1 ∷ 2 ∷ 5 ∷ []
 
 -- the old form, as document 01 has it: whole millimetres in 10 bits, 11 bytes, 4 spare bits of a baseline and 5 of a visit
 abbrev pub old_baseline : Record

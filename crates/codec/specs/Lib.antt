@@ -1,5 +1,6 @@
 pub mod Bytes
 pub mod Reading
+pub mod FormsRead
 pub mod RawWith
 pub mod OldReading
 pub mod Fields

@@ -1,6 +1,6 @@
 -- Document 01, "Where a call stops", bytes read: 1, 2, then 3 to 5, or the record.
 -- Assumes nothing.
-use Rattle.std.specs.Prelude.{◌≡◌, ℕ, Bool, false, not, List, [], ◌∷◌, ltb, leb, eqb, get_or, length, drop}
+use Rattle.std.specs.Prelude.{◌≡◌, ℕ, Bool, false, not, List, [], ◌∷◌, ltb, leb, eqb, get_or, length, drop, Result, Ok, Err, Option, MatchOption}
 use Rattle.laws.specs.Choice.{both, pick}
 use Rattle.laws.specs.Refusals.{Refusal, ◌when◌, first}
 use Rattle.laws.specs.Layout.{unpack, AreBytes}
@@ -13,18 +13,20 @@ use Rattle.records.specs.declared.Status.TheVariants.{NA, CR, NN, PD, NE}
 use Rattle.records.specs.declared.Record.{Record}
 use Rattle.records.specs.Forms.{Form, new_form, new_unit}
 use Rattle.codec.specs.Bytes.{baseline_layout, visit_layout, spare_layout, bytes_number}
+use Rattle.codec.specs.declared.Kind.{Kind}
+use Rattle.codec.specs.declared.Kind.TheVariants as K
 use Rattle.codec.specs.declared.Raw.{Raw}
 use Rattle.codec.specs.declared.VisitFields.{VisitFields}
-use Rattle.codec.specs.declared.ReadAnswer.{ReadAnswer}
-use Rattle.codec.specs.declared.ReadAnswer.TheVariants.{Done, WrongLength, NoSuchKind, Refused}
+use Rattle.codec.specs.declared.ReadRefusal.{ReadRefusal}
+use Rattle.codec.specs.declared.ReadRefusal.TheVariants.{WrongLength, NoSuchKind, Own}
 use Rattle.codec.specs.declared.ReadResult.{ReadResult}
 
 -- the number of each case in document 01; 0 where no refusal meets
-abbrev pub read_number : ReadAnswer → ℕ
-read_number Done = 0
-read_number WrongLength = 1
-read_number NoSuchKind = 2
-read_number (Refused own) = own_number own
+abbrev pub read_number : Result (Unit {0}) ReadRefusal → ℕ
+read_number (Ok u) = 0
+read_number (Err WrongLength) = 1
+read_number (Err NoSuchKind) = 2
+read_number (Err (Own own)) = own_number own
 
 abbrev pub is_one : ℕ → Bool
 is_one n = eqb n 1
@@ -80,6 +82,16 @@ spare_from e f = record { read = without_targets e; badstatus = false; spare = l
 
 abbrev pub is_kind : ℕ → Bool
 is_kind kind = both (leb 1 kind) (leb kind 4)
+
+abbrev pub number_of_kind : Kind → ℕ
+number_of_kind K.Baseline = 1
+number_of_kind K.Visit = 2
+number_of_kind K.Therapy = 3
+number_of_kind K.Death = 4
+
+-- the kind that a number is, where it is one
+abbrev pub IsKindOf : ℕ → Option Kind → Type 0
+IsKindOf n found = MatchOption found (is_kind n ≡ false) (λ kind. number_of_kind kind ≡ n)
 
 -- of sizes of which a millimetre has so many units
 abbrev pub refusals_of_raw : ℕ → Raw → List Refusal

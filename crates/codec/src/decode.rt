@@ -1,43 +1,58 @@
-// Bytes to what stands in them, before it is judged.
-ghost use Rattle.std.specs.Prelude.{◌≡◌, ◌+◌, ◌*◌, ◌≤◌, ◌%◌, ◌^◌, ltb, length};
-ghost use Rattle.codec.specs.Bytes.{record_length, bytes_number};
-ghost use Rattle.codec.specs.Fields.{field_at, targets_at};
-ghost use Rattle.codec.specs.Reading.{is_one, date_in, marks_from, sizes_from, status_from, without_targets, blank_record, baseline_in, visit_fields_in, visit_in, spare_in, raw_in};
-ghost use Rattle.records.specs.Forms.{new_form};
+// Bytes to what stands in them, before it is judged, for either form; each size is in tenths of a millimetre.
+ghost use Rattle.std.specs.Prelude.{◌≡◌, ◌+◌, ◌-◌, ◌*◌, ◌≤◌, ◌%◌, ◌^◌, ltb};
+ghost use Rattle.codec.specs.Bytes.{bytes_number};
+ghost use Rattle.codec.specs.Fields.{field_at, targets_at, target_width};
+ghost use Rattle.codec.specs.RawWith.{raw_with, times, sizes_times, visit_times};
+ghost use Rattle.codec.specs.Reading.{is_one, kind_in, date_in, marks_from, sizes_from, status_from, without_targets, blank_record, baseline_in, visit_fields_in, visit_in, spare_in, raw_in, number_of_kind, IsKindOf};
 
-use super::fields::field;
-use crate::{Raw, VisitFields};
+use super::fields::{bit_set_behind, bits_at};
+use super::forms::RecordBytes;
+use crate::{Kind, Raw, VisitFields};
 use dates::Date;
 use records::{BaselineEntry, Entry, Record, Status, VisitEntry};
 
-// The bit at which each field starts; kind is at 0. In the old form all but the spare bits start there too.
-pub(crate) const YEAR: u32 = 3;
+// The bit at which each field starts, in both forms.
+const KIND: u32 = 0;
 
-pub(crate) const MONTH: u32 = 15;
+const YEAR: u32 = 3;
 
-pub(crate) const DAY: u32 = 19;
+const MONTH: u32 = 15;
 
-pub(crate) const ASSESSED: u32 = 24;
+const DAY: u32 = 19;
 
-pub(crate) const NONTARGET: u32 = 25;
+const ASSESSED: u32 = 24;
 
-pub(crate) const COUNT: u32 = 26;
+const NONTARGET: u32 = 25;
 
-pub(crate) const BASELINE_TARGETS: u32 = 29;
+const COUNT: u32 = 26;
 
-const BASELINE_SPARE: u32 = 99;
+const BASELINE_TARGETS: u32 = 29;
 
-pub(crate) const STATUS: u32 = 24;
+const STATUS: u32 = 24;
 
-pub(crate) const NEW_LESION: u32 = 27;
+const NEW_LESION: u32 = 27;
 
-pub(crate) const VISIT_TARGETS: u32 = 28;
+const VISIT_TARGETS: u32 = 28;
 
-const VISIT_SPARE: u32 = 98;
+// The bytes of kind and date.
+const HEAD_LENGTH: usize = 3;
 
-fn date_in(s: &[u8]) -> Date
-    requires { length s.now ≡ record_length }
-    ensures { result ≡ date_in new_form (bytes_number new_form s.now) }
+fn field<R: RecordBytes>(s: &R, at: u32, width: u32) -> u16
+    requires { (at + width ≤ 8 * R.form.record_length) × (width ≤ 16) }
+    ensures { result ≡ field_at R.form (R.bytes s.now) at width }
+{
+    bits_at(s.bytes(), at, width)
+}
+
+// The bits of a target: a mark and a size.
+fn target_width<R: RecordBytes>() -> u32
+    ensures { result ≡ target_width R.form }
+{
+    1 + R::SIZE_WIDTH
+}
+
+fn date_in<R: RecordBytes>(s: &R) -> Date
+    ensures { result ≡ date_in R.form (bytes_number R.form (R.bytes s.now)) }
 {
     Date {
         year: field(s, YEAR, 12),
@@ -46,40 +61,61 @@ fn date_in(s: &[u8]) -> Date
     }
 }
 
-fn bit_at(s: &[u8], at: u32) -> bool
-    requires { (length s.now ≡ record_length) × (at + 1 ≤ 8 * record_length) }
-    ensures { result ≡ is_one (field_at new_form s.now at 1) }
+fn bit_at<R: RecordBytes>(s: &R, at: u32) -> bool
+    requires { at + 1 ≤ 8 * R.form.record_length }
+    ensures { result ≡ is_one (field_at R.form (R.bytes s.now) at 1) }
 {
     field(s, at, 1) == 1
 }
 
-fn marks_at(s: &[u8], at: u32) -> [bool; 5]
-    requires { (length s.now ≡ record_length) × (at + 70 ≤ 8 * record_length) }
-    ensures { result ≡ marks_from (targets_at new_form s.now at) }
+fn size_at<R: RecordBytes>(s: &R, at: u32) -> u16
+    requires { at + R.form.size_width ≤ 8 * R.form.record_length }
+    ensures { result ≡ R.TENTHS * field_at R.form (R.bytes s.now) at R.form.size_width }
 {
+    R::TENTHS * field(s, at, R::SIZE_WIDTH)
+}
+
+// Five calls, here and in `sizes_at`: with `[0, 1, 2, 3, 4].map(..)` six goals stayed open.
+fn marks_at<R: RecordBytes>(s: &R, at: u32) -> [bool; 5]
+    requires { at + 5 * target_width R.form ≤ 8 * R.form.record_length }
+    ensures { result ≡ marks_from (targets_at R.form (R.bytes s.now) at) }
+{
+    let width = target_width::<R>();
     [
         bit_at(s, at),
-        bit_at(s, at + 14),
-        bit_at(s, at + 28),
-        bit_at(s, at + 42),
-        bit_at(s, at + 56),
+        bit_at(s, at + width),
+        bit_at(s, at + 2 * width),
+        bit_at(s, at + 3 * width),
+        bit_at(s, at + 4 * width),
     ]
 }
 
-fn sizes_at(s: &[u8], at: u32) -> [u16; 5]
-    requires { (length s.now ≡ record_length) × (at + 70 ≤ 8 * record_length) }
-    ensures { result ≡ sizes_from (targets_at new_form s.now at) }
+fn sizes_at<R: RecordBytes>(s: &R, at: u32) -> [u16; 5]
+    requires { at + 5 * target_width R.form ≤ 8 * R.form.record_length }
+    ensures { result ≡ times R.TENTHS (sizes_from (targets_at R.form (R.bytes s.now) at)) }
 {
+    let width = target_width::<R>();
     [
-        field(s, at + 1, 13),
-        field(s, at + 15, 13),
-        field(s, at + 29, 13),
-        field(s, at + 43, 13),
-        field(s, at + 57, 13),
+        size_at(s, at + 1),
+        size_at(s, at + (width + 1)),
+        size_at(s, at + (2 * width + 1)),
+        size_at(s, at + (3 * width + 1)),
+        size_at(s, at + (4 * width + 1)),
     ]
 }
 
-pub(crate) fn status_from(n: u16) -> Status
+// Whether a bit is set behind the five targets, which start at bit 28 or 29.
+fn spare_behind_targets<R: RecordBytes>(s: &R, targets: u32) -> bool
+    requires { (28 ≤ targets) × (targets ≤ 29) }
+    ensures { result ≡ ltb 0 (field_at R.form (R.bytes s.now) (targets + 5 * target_width R.form) (8 * R.form.record_length - (targets + 5 * target_width R.form))) }
+{
+    let spare = targets + 5 * target_width::<R>();
+    0 < field(s, spare, 8 * R::LENGTH - spare)
+}
+
+// NA for a number that is no status, as the definition has it, beside `badstatus`.
+#[tactic(auto, unfolding(crate::specs::Reading::status_from))]
+fn status_from(n: u16) -> Status
     ensures { result ≡ status_from n }
 {
     match n {
@@ -91,94 +127,85 @@ pub(crate) fn status_from(n: u16) -> Status
     }
 }
 
-fn baseline_in(s: &[u8]) -> Raw
-    requires { length s.now ≡ record_length }
-    ensures { result ≡ baseline_in new_form (bytes_number new_form s.now) }
+#[tactic(auto, using(crate::proofs::FieldsByBits::baseline_by_bits))]
+fn baseline_in<R: RecordBytes>(s: &R) -> Raw
+    ensures { result ≡ raw_with (sizes_times R.TENTHS) (baseline_in R.form (bytes_number R.form (R.bytes s.now))) }
 {
-    let date = date_in(s);
     let entry = Entry::Baseline(BaselineEntry {
-        date: date,
+        date: date_in(s),
         assessed: bit_at(s, ASSESSED),
         nontarget: bit_at(s, NONTARGET),
         count: field(s, COUNT, 3) as u8,
     });
-    let sizes = sizes_at(s, BASELINE_TARGETS);
-    let marks = marks_at(s, BASELINE_TARGETS);
     let read = Record {
-        entry: entry,
-        sizes: sizes,
-        marks: marks,
+        entry,
+        sizes: sizes_at(s, BASELINE_TARGETS),
+        marks: marks_at(s, BASELINE_TARGETS),
     };
     Raw {
-        read: read,
+        read,
         badstatus: false,
-        spare: 0 < field(s, BASELINE_SPARE, 5),
+        spare: spare_behind_targets(s, BASELINE_TARGETS),
     }
 }
 
-pub(crate) fn visit_fields_in(s: &[u8]) -> VisitFields
-    requires { length s.now ≡ record_length }
-    ensures { result ≡ visit_fields_in new_form (bytes_number new_form s.now) }
+#[tactic(auto, using(crate::proofs::FieldsByBits::visit_by_bits))]
+pub(crate) fn visit_fields_in<R: RecordBytes>(s: &R) -> VisitFields
+    ensures { result ≡ visit_times R.TENTHS (visit_fields_in R.form (bytes_number R.form (R.bytes s.now))) }
 {
-    let kind = field(s, 0, 3);
+    let kind = field(s, KIND, 3);
     let number = field(s, STATUS, 3);
-    let date = date_in(s);
-    let status = status_from(number);
-    let newlesion = bit_at(s, NEW_LESION);
-    let measured = marks_at(s, VISIT_TARGETS);
-    let sizes = sizes_at(s, VISIT_TARGETS);
-    let spare = field(s, VISIT_SPARE, 6);
     let entry = VisitEntry {
-        date: date,
-        status: status,
-        newlesion: newlesion,
+        date: date_in(s),
+        status: status_from(number),
+        newlesion: bit_at(s, NEW_LESION),
     };
     VisitFields {
         isvisit: kind == 2,
-        entry: entry,
-        measured: measured,
-        sizes: sizes,
+        entry,
+        measured: marks_at(s, VISIT_TARGETS),
+        sizes: sizes_at(s, VISIT_TARGETS),
         badstatus: 4 < number,
-        spare: 0 < spare,
+        spare: spare_behind_targets(s, VISIT_TARGETS),
     }
 }
 
-fn visit_in(s: &[u8]) -> Raw
-    requires { length s.now ≡ record_length }
-    ensures { result ≡ visit_in new_form (bytes_number new_form s.now) }
+#[tactic(auto, unfolding(crate::specs::Reading::visit_in, crate::specs::Reading::visit_fields_in))]
+fn visit_in<R: RecordBytes>(s: &R) -> Raw
+    ensures { result ≡ raw_with (sizes_times R.TENTHS) (visit_in R.form (bytes_number R.form (R.bytes s.now))) }
 {
-    let v = visit_fields_in(s);
-    let entry = v.entry;
-    let sizes = v.sizes;
-    let measured = v.measured;
-    let read = Record {
-        entry: Entry::Visit(entry),
-        sizes: sizes,
-        marks: measured,
-    };
+    let VisitFields {
+        entry,
+        measured,
+        sizes,
+        badstatus,
+        spare,
+        ..
+    } = visit_fields_in(s);
     Raw {
-        read: read,
-        badstatus: v.badstatus,
-        spare: v.spare,
+        read: Record {
+            entry: Entry::Visit(entry),
+            sizes,
+            marks: measured,
+        },
+        badstatus,
+        spare,
     }
 }
 
-fn bit_set_behind_date(s: &[u8]) -> bool
-    requires { length s.now ≡ record_length }
-    ensures { result ≡ ltb 0 (bytes_number new_form s.now % 2 ^ 80) }
+fn bit_set_behind_date<R: RecordBytes>(s: &R) -> bool
+    ensures { result ≡ ltb 0 (bytes_number R.form (R.bytes s.now) % 2 ^ (8 * (R.form.record_length - 3))) }
 {
-    0 < field(s, 24, 16)
-        || (0 < field(s, 40, 16)
-            || (0 < field(s, 56, 16) || (0 < field(s, 72, 16) || 0 < field(s, 88, 16))))
+    bit_set_behind(s.bytes(), HEAD_LENGTH)
 }
 
-pub(crate) fn record_without_targets(entry: Entry) -> Record
+fn record_without_targets(entry: Entry) -> Record
     ensures { result ≡ without_targets entry }
 {
     Record {
-        entry: entry,
-        sizes: [0, 0, 0, 0, 0],
-        marks: [false, false, false, false, false],
+        entry,
+        sizes: [0; 5],
+        marks: [false; 5],
     }
 }
 
@@ -192,32 +219,38 @@ pub(crate) fn blank_record() -> Record
     }))
 }
 
-fn spare_in(s: &[u8], entry: Entry) -> Raw
-    requires { length s.now ≡ record_length }
-    ensures { result ≡ spare_in new_form entry (bytes_number new_form s.now) }
+#[tactic(auto, using(crate::proofs::FieldsByBits::spare_by_bits))]
+fn spare_in<R: RecordBytes>(s: &R, entry: Entry) -> Raw
+    ensures { result ≡ raw_with (sizes_times R.TENTHS) (spare_in R.form entry (bytes_number R.form (R.bytes s.now))) }
 {
-    let read = record_without_targets(entry);
-    let spare = bit_set_behind_date(s);
     Raw {
-        read: read,
+        read: record_without_targets(entry),
         badstatus: false,
-        spare: spare,
+        spare: bit_set_behind_date(s),
     }
 }
 
-pub(crate) fn raw_in(kind: u16, s: &[u8]) -> Raw
-    requires { length s.now ≡ record_length }
-    ensures { result ≡ raw_in new_form kind (bytes_number new_form s.now) }
+// None where the number is no kind.
+pub(crate) fn kind_in<R: RecordBytes>(s: &R) -> Option<Kind>
+    ensures { IsKindOf (kind_in R.form (bytes_number R.form (R.bytes s.now))) result }
 {
-    if kind == 1 {
-        return baseline_in(s);
+    match field(s, KIND, 3) {
+        1 => Some(Kind::Baseline),
+        2 => Some(Kind::Visit),
+        3 => Some(Kind::Therapy),
+        4 => Some(Kind::Death),
+        _ => None,
     }
-    if kind == 2 {
-        return visit_in(s);
+}
+
+#[tactic(auto, unfolding(crate::specs::Reading::raw_in))]
+pub(crate) fn raw_in<R: RecordBytes>(kind: Kind, s: &R) -> Raw
+    ensures { result ≡ raw_with (sizes_times R.TENTHS) (raw_in R.form (number_of_kind kind) (bytes_number R.form (R.bytes s.now))) }
+{
+    match kind {
+        Kind::Baseline => baseline_in(s),
+        Kind::Visit => visit_in(s),
+        Kind::Therapy => spare_in(s, Entry::Therapy(date_in(s))),
+        Kind::Death => spare_in(s, Entry::Death(date_in(s))),
     }
-    let date = date_in(s);
-    if kind == 3 {
-        return spare_in(s, Entry::Therapy(date));
-    }
-    spare_in(s, Entry::Death(date))
 }

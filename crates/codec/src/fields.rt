@@ -1,8 +1,8 @@
 // The bits of one field, from the three bytes that end where it ends. The law behind it holds for any number of bytes.
-ghost use Rattle.std.specs.Prelude.{◌≡◌, ◌+◌, ◌*◌, ◌/◌, ◌%◌, ◌^◌, ◌≤◌, ◌<◌, length};
+ghost use Rattle.std.specs.Prelude.{◌≡◌, ◌+◌, ◌-◌, ◌*◌, ◌/◌, ◌%◌, ◌^◌, ◌≤◌, ◌<◌, ltb, length};
 ghost use Rattle.laws.specs.Layout.{before};
-ghost use Rattle.records.specs.Forms.{Form, new_form};
-ghost use Rattle.codec.specs.Bytes.{record_length};
+ghost use Rattle.records.specs.Forms.{Form};
+ghost use Rattle.codec.specs.Bytes.{record_length, bytes_number};
 ghost use Rattle.codec.specs.Fields.{field_at};
 
 // Byte j before the end; 0 before the first.
@@ -35,10 +35,10 @@ pub(crate) fn bits_at(s: &[u8], at: u32, width: u32) -> u16
     bits_of(first * 65536 + second * 256 + third, end * 8 - past, width)
 }
 
-// The field there of a record.
-pub(crate) fn field(s: &[u8], at: u32, width: u32) -> u16
-    requires { (length s.now ≡ record_length) × (at + width ≤ 8 * record_length) × (width ≤ 16) }
-    ensures { result ≡ field_at new_form s.now at width }
+// Whether any bit is set behind the first bytes.
+pub(crate) fn bit_set_behind(s: &[u8], first: usize) -> bool
+    requires { first ≤ length s.now }
+    ensures { (form : Form) → length s.now ≡ form.record_length → result ≡ ltb 0 (bytes_number form s.now % 2 ^ (8 * (form.record_length - first))) }
 {
-    bits_at(s, at, width)
+    s[first..].iter().any(|byte| 0 < *byte)
 }

@@ -2,44 +2,34 @@
 // file writes nothing to standard output, and R with its number and the index of a record to standard error.
 #![tactic(auto)]
 
-use converter::ConvertAnswer;
-use file::FileRefusal;
+use anyhow::{Result, bail, ensure};
+use input::End;
 
-const STANDARD_OUTPUT: i32 = 1;
-
-const STANDARD_ERROR: i32 = 2;
-
-fn print_refusal(r: FileRefusal) {
-    io::write_all(STANDARD_ERROR, b"R ");
-    io::print_decimal(STANDARD_ERROR, r.number as u64);
-    io::write_all(STANDARD_ERROR, b" ");
-    io::print_decimal(STANDARD_ERROR, r.index as u64);
-    io::write_all(STANDARD_ERROR, b"\n");
-}
-
-fn print_file(bytes: &[u8]) {
-    if !io::write_all(STANDARD_OUTPUT, bytes) {
-        io::write_all(
-            STANDARD_ERROR,
-            b"convert: standard output cannot be written\n",
-        );
-    }
-}
-
-fn print_converted(old: &[u8]) {
-    let mut out = io::large_buffer();
+fn print_converted(rt: &impl Print, old: &[u8]) -> Result<()> {
+    let mut out = [0; 65536];
     match converter::convert(old, &mut out) {
-        ConvertAnswer::Refused(r) => print_refusal(r),
-        ConvertAnswer::Done(n) => print_file(&out[..n]),
+        Ok(n) => ensure!(
+            rt.write_all(&out[..n]).is_ok(),
+            "convert: standard output cannot be written"
+        ),
+        Err(r) => bail!("R {} {}", r.number, r.index),
     }
+    Ok(())
 }
 
-fn main(rt: HostRuntime) {
-    let mut bytes = io::large_buffer();
+fn convert_input(rt: &HostRuntime) -> Result<()> {
+    let mut bytes = [0; 65536];
     let read = input::read_input(&mut rt.stdin(), &mut bytes);
-    if read.end < 0 {
-        io::write_all(STANDARD_ERROR, b"convert: standard input cannot be read\n");
-        return;
+    ensure!(
+        read.end != End::Failed,
+        "convert: standard input cannot be read"
+    );
+    print_converted(rt, &bytes[..read.count])
+}
+
+// An error changes no exit status.
+fn main(rt: HostRuntime) {
+    if let Err(error) = convert_input(&rt) {
+        let _ = rt.eprintln(error);
     }
-    print_converted(&bytes[..read.count]);
 }

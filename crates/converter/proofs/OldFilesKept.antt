@@ -9,6 +9,7 @@ use lib.Dec.{ltb}
 use lib.ListN.{length, take, drop, length-append}
 use lib.Seq.{take-append_seam}
 use borrow.Author.Tests.{le-ltb, lt-ltb}
+use Rattle.std.specs.Prelude.{Result, Ok}
 use Rattle.laws.specs.Choice.{pick}
 use Rattle.laws.proofs.Tests.{never}
 use Rattle.records.specs.Forms.{old_form, new_form}
@@ -16,11 +17,10 @@ use Rattle.outcome_rules.specs.Values.{Outcome}
 use Rattle.file.specs.Verdict as F
 use Rattle.listing_text.specs.Text.{listing_of, page_of}
 use Rattle.listing.specs.Writing.{ListsFile}
-use Rattle.converter.specs.declared.ConvertAnswer.{ConvertAnswer}
-use Rattle.converter.specs.declared.ConvertAnswer.TheVariants as C
 use Rattle.converter.specs.Conversion.{Conversion, refused, written, converted, conversion_by, conversion_of, output_by, output_of, conversion_values, Converts}
 use Rattle.converter.specs.Laws.{OldFileKept, OldFilesKept}
 use Rattle.converter.proofs.ConvertedFile.{same_verdict, same_lines, same_listing}
+use Rattle.file.specs.declared.FileRefusal.{FileRefusal}
 
 abbrev is_written : Conversion → Bool
 is_written (refused n k) = false
@@ -44,7 +44,7 @@ whole (F.accepted o) size room n e = go (ltb room size) e
     go true f = absurd (never (sym (ap is_written f)))
     go false f = record { outcome = o; accepts = refl; wrote = sym (ap size_in f) }
 
-module _ {s out left : List ℕ} {a : ConvertAnswer} (w : Converts s out a left) where
+module _ {s out left : List ℕ} {a : Result ℕ FileRefusal} (w : Converts s out a left) where
   module _ {n : ℕ} (e : conversion_values a ≡ written n) where
     done : conversion_of s out ≡ written n
     done = sym w.answer ∙ e
@@ -78,7 +78,7 @@ module _ {s out left : List ℕ} {a : ConvertAnswer} (w : Converts s out a left)
         })
 
   -- what was written is within the output
-  pub within_output : {n : ℕ} → a ≡ C.Done n → n ≤ length left
+  pub within_output : {n : ℕ} → a ≡ Ok n → n ≤ length left
   unfolding output_of
   within_output {n} q =
       let e = ap conversion_values q in

@@ -9,6 +9,7 @@ use native.Mathlib.Omega.{arith}
 use lib.Dec.{eqb}
 use lib.ListN.{length, take}
 use borrow.Author.Tests.{eq-eqb, ne_eqb, eqb-true}
+use Rattle.std.specs.Prelude.{Result}
 use Rattle.laws.specs.Choice.{pick}
 use Rattle.laws.specs.Refusals.{Refusal, ◌when◌, first}
 use Rattle.laws.proofs.FirstRefusal.{none_of_both}
@@ -26,13 +27,14 @@ use Rattle.outcome_rules.proofs.Tenfold.{tenfold_lists}
 use Rattle.subject.specs.declared.Subject.{Subject}
 use Rattle.subject.specs.Opening.{open_number}
 use Rattle.adding.specs.Refusals.{add_number}
-use Rattle.file.specs.declared.FileAnswer.{FileAnswer}
 use Rattle.file.specs.Verdict.{Verdict, refused, accepted, unless_refused, refusal_of_part, verdict_from, verdict_of, file_values}
 use Rattle.file.specs.Ending.{EndsFile}
 use Rattle.file.proofs.FileFollowsRecords.{Taken, opened_taken, adding, more, ending}
 use Rattle.file.proofs.VerdictsApart.{apart}
 use Rattle.converter.specs.Judging.{number_behind, OpensOld, AddsOld, JudgesOldFile, AllRead}
 use Rattle.converter.proofs.ConvertedFile.{ended_same}
+use Rattle.outcome.specs.declared.OutcomeResult.{OutcomeResult}
+use Rattle.file.specs.declared.FileRefusal.{FileRefusal}
 
 -- the parts from index k on
 abbrev pub from : List ℕ → ℕ → List (List ℕ)
@@ -43,7 +45,7 @@ pub record Standing (l : List ℕ) (s : Subject) (k : ℕ) : Type 0 where
   pub taken : Taken (map tenfold before) s
   pub rest : verdict_of old_form l ≡ verdict_from old_form before k (from l k)
 
-pub bad : (l : List ℕ) (a : FileAnswer) → bad_length old_form (length l) ≡ true → file_values a ≡ refused 13 0 → JudgesOldFile l a
+pub bad : (l : List ℕ) (a : Result OutcomeResult FileRefusal) → bad_length old_form (length l) ≡ true → file_values a ≡ refused 13 0 → JudgesOldFile l a
 unfolding verdict_of
 bad l a h e = record { answer = e ∙ rw h }
 
@@ -78,7 +80,7 @@ module _ (l : List ℕ) (fair : bad_length old_form (length l) ≡ false) where
   all_parts = rw fair (ap (λ (n : ℕ). verdict_from old_form [] 0 (parts old_form n l)) (one_part old_form l fair))
 
   module _ (n : ℕ) (s : Subject) (w : OpensOld (take 11 l) n s) where
-    pub first_refused : (a : FileAnswer) → (n ≡ 0 → ⊥) → file_values a ≡ refused n 0 → JudgesOldFile l a
+    pub first_refused : (a : Result OutcomeResult FileRefusal) → (n ≡ 0 → ⊥) → file_values a ≡ refused n 0 → JudgesOldFile l a
     first_refused a z e =
         let number = opened_number (take 11 l) n s w in
         let met : eqb (refusal_of_part old_form [] (take 11 l)) 0 ≡ false = ne_eqb _ 0 (λ q. z (number ∙ q)) in
@@ -121,7 +123,7 @@ module _ (l : List ℕ) (s : Subject) (k : ℕ) (w : Standing l s k) where
     next_part : verdict_of old_form l ≡ verdict_from old_form w.before k (part_at old_form l k ∷ from l (k + 1))
     next_part = w.rest ∙ ap (verdict_from old_form w.before k) (one_more old_form l (length l / 11) k h)
 
-    pub turn_refused : (a : FileAnswer) → (n ≡ 0 → ⊥) → file_values a ≡ refused n k → JudgesOldFile l a
+    pub turn_refused : (a : Result OutcomeResult FileRefusal) → (n ≡ 0 → ⊥) → file_values a ≡ refused n k → JudgesOldFile l a
     turn_refused a z e =
         let number = later_number w.before w.taken v in
         let met : eqb (refusal_of_part old_form w.before (part_at old_form l k)) 0 ≡ false = ne_eqb _ 0 (λ q. z (number ∙ q)) in
@@ -137,7 +139,7 @@ module _ (l : List ℕ) (s : Subject) (k : ℕ) (w : Standing l s k) where
           rest = next_part ∙ rw none (ap (λ (j : ℕ). verdict_from old_form (w.before ++ (r ∷ [])) j (from l (k + 1))) (sym (add-one k)));
         }
 
-  pub ended : length l / 11 ≤ k → (a : FileAnswer) → EndsFile s (k - 1) a → JudgesOldFile l a
+  pub ended : length l / 11 ≤ k → (a : Result OutcomeResult FileRefusal) → EndsFile s (k - 1) a → JudgesOldFile l a
   ended h a v =
       let z : length l / 11 - k ≡ 0 = omega arith in
       let none : from l k ≡ [] = rw z in

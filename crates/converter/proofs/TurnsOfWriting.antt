@@ -8,6 +8,8 @@ use native.Mathlib.Omega.{arith}
 use borrow.Rule.Slice.PartMut.{post_of, put_mid}
 use lib.ListN.{length, take, drop, length-append, length-drop, drop_of_length-le}
 use lib.Seq.{take_all, drop-drop, take-append_seam, drop-append_seam}
+use Rattle.std.specs.Prelude.{Result}
+use Rattle.writing.specs.declared.WriteRefusal.{WriteRefusal}
 use Rattle.records.specs.Forms.{old_form, new_form, new_unit}
 use Rattle.codec.specs.Reading.{refusal_of_bytes}
 use Rattle.codec.specs.OldReading.{ReadsOld}
@@ -15,7 +17,6 @@ use Rattle.codec.specs.Parts.{parts, parts_of, joined}
 use Rattle.codec.specs.declared.ReadResult.{ReadResult}
 use Rattle.codec.proofs.PartsJoined.{part_at, parts_from, one_more}
 use Rattle.writing.specs.Writing.{Writes}
-use Rattle.writing.specs.declared.WriteAnswer.{WriteAnswer}
 use Rattle.writing.proofs.RoundTrip.{stored}
 use Rattle.records.specs.Refusals.{refusal_of_record}
 use Rattle.codec.specs.Bytes.{bytes_of}
@@ -25,7 +26,7 @@ use Rattle.converter.proofs.ConvertedFile.{own, part_length}
 
 -- ---- one record, into the part of the output from a place on
 
-pub record_stored : (part out last : List ℕ) (at : ℕ) (x : ReadResult) (a : WriteAnswer) → refusal_of_bytes old_form part ≡ 0 → at + 13 ≤ length out →
+pub record_stored : (part out last : List ℕ) (at : ℕ) (x : ReadResult) (a : Result (Unit {0}) WriteRefusal) → refusal_of_bytes old_form part ≡ 0 → at + 13 ≤ length out →
     ReadsOld part x → Writes x.found (take (length out - at) (drop at out)) a last →
     put_mid at (length out - at) out last ≡ take at out ++ (converted_part part ++ drop 13 (drop at out))
 record_stored part out last at x a e h r w =

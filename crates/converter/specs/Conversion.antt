@@ -1,6 +1,6 @@
 -- Document 02, request 1: a file of the old form turned into the new one, each size times ten, and what converting promises.
 -- Assumes nothing.
-use Rattle.std.specs.Prelude.{◌≡◌, List, map, ◌++◌, ℕ, ltb, length, drop}
+use Rattle.std.specs.Prelude.{◌≡◌, List, map, ◌++◌, ℕ, ltb, length, drop, Result, Ok, Err}
 use Rattle.laws.specs.Choice.{pick}
 use Rattle.records.specs.Forms.{old_form, new_form}
 use Rattle.records.specs.Tenfold.{tenfold}
@@ -8,8 +8,7 @@ use Rattle.codec.specs.Bytes.{bytes_of}
 use Rattle.codec.specs.Reading.{record_of_bytes}
 use Rattle.codec.specs.Parts.{parts_of, joined}
 use Rattle.file.specs.Verdict as F
-use Rattle.converter.specs.declared.ConvertAnswer.{ConvertAnswer}
-use Rattle.converter.specs.declared.ConvertAnswer.TheVariants as C
+use Rattle.file.specs.declared.FileRefusal.{FileRefusal}
 
 -- the record that the bytes of a part are read as, written in the new form
 abbrev pub converted_part : List ℕ → List ℕ
@@ -40,11 +39,11 @@ unfoldable pub output_of : List ℕ → List ℕ → List ℕ
 output_of s out = output_by (conversion_of s out) (converted s) out
 
 -- the declared cases
-abbrev pub conversion_values : ConvertAnswer → Conversion
-conversion_values (C.Refused r) = refused r.number r.index
-conversion_values (C.Done size) = written size
+abbrev pub conversion_values : Result ℕ FileRefusal → Conversion
+conversion_values (Err r) = refused r.number r.index
+conversion_values (Ok size) = written size
 
 -- the promise of converting, with the output at entry and at exit
-pub record Converts (s out : List ℕ) (a : ConvertAnswer) (left : List ℕ) : Type 0 where
+pub record Converts (s out : List ℕ) (a : Result ℕ FileRefusal) (left : List ℕ) : Type 0 where
   pub answer : conversion_values a ≡ conversion_of s out
   pub output : left ≡ output_of s out

@@ -1,13 +1,12 @@
 -- Document 02, request 1: old files, their verdicts, listings and conversions, and what is left of the output. Proved in proofs/AtTheEdges.antt.
 -- Assumes nothing.
-use Rattle.std.specs.Prelude.{◌≡◌, List, [], ◌∷◌, ◌++◌, map, ℕ}
+use Rattle.std.specs.Prelude.{◌≡◌, List, [], ◌∷◌, ◌++◌, map, ℕ, Ok, Err}
 use Rattle.records.specs.Forms.{old_form, new_form}
 use Rattle.records.specs.Examples.{filled}
 use Rattle.codec.specs.Examples.{old_baseline_bytes}
 use Rattle.file.specs.Verdict as F
 use Rattle.file.specs.Examples.{printed_file, printed_outcome}
 use Rattle.listing_text.specs.Text.{listing_of}
-use Rattle.converter.specs.declared.ConvertAnswer.TheVariants as C
 use Rattle.converter.specs.Judging.{number_behind}
 use Rattle.converter.specs.Conversion.{refused, written, converted, conversion_of, output_of, conversion_values}
 
@@ -54,4 +53,4 @@ pub record ConversionsAtTheEdges : Type 0 where
   pub left_of_refused : output_of old_therapy (filled 7 13 []) ≡ filled 7 13 []
   pub left_of_late : output_of (old_baseline_bytes ++ old_baseline_bytes) (filled 7 27 []) ≡ filled 7 27 []
   -- the values of the declared cases
-  pub values : map conversion_values (C.Done 52 ∷ C.Refused (record { number = 9; index = 10 }) ∷ []) ≡ written 52 ∷ refused 9 10 ∷ []
+  pub values : map conversion_values (Ok 52 ∷ Err (record { number = 9; index = 10 }) ∷ []) ≡ written 52 ∷ refused 9 10 ∷ []

@@ -1,57 +1,28 @@
 // An old file judged, by its own lengths and limits.
-ghost use Rattle.std.specs.Prelude.{◌≡◌};
-ghost use Rattle.records.specs.Forms.{old_form};
-ghost use Rattle.codec.specs.Parts.{bad_length};
-ghost use Rattle.file.specs.Verdict.{file_values, refused as stopped};
 ghost use Rattle.converter.specs.Judging.{JudgesOldFile};
 
 use super::placing::{add_old, open_old};
-use codec::{MOST_RECORDS, OLD_RECORD_LENGTH};
-use file::{FileAnswer, FileRefusal};
+use codec::OLD_RECORD_LENGTH;
+use file::{FileRefusal, refused};
+use outcome::OutcomeResult;
 
-const MOST_OLD_BYTES: usize = MOST_RECORDS * OLD_RECORD_LENGTH;
-
-// Refusal 13 of the old form.
-fn bad_old_length(n: usize) -> bool
-    ensures { result ≡ bad_length old_form n }
-{
-    n == 0 || (n % OLD_RECORD_LENGTH != 0 || MOST_OLD_BYTES < n)
-}
-
-fn refused(number: u8, index: usize) -> FileAnswer
-    ensures { file_values result ≡ stopped number index }
-{
-    FileAnswer::Refused(FileRefusal {
-        number: number,
-        index: index,
-    })
-}
-
-pub(crate) fn judge_old(old: &[u8]) -> FileAnswer
+// A loop of its own beside `file::judge_file`, for the calls on old records; file/src/lib.rt says why.
+pub(crate) fn judge_old(old: &[u8]) -> Result<OutcomeResult, FileRefusal>
     ensures { JudgesOldFile old.now result }
 {
-    if bad_old_length(old.len()) {
+    if codec::bad_old_length(old.len()) {
         return refused(13, 0);
     }
-    let first = open_old(&old[0..OLD_RECORD_LENGTH]);
-    let unopened = first.number;
-    if unopened != 0 {
-        return refused(unopened, 0);
+    let mut subject = match open_old(&old[0..OLD_RECORD_LENGTH]) {
+        Ok(opened) => opened,
+        Err(number) => return refused(number, 0),
+    };
+    let later = &old[OLD_RECORD_LENGTH..];
+    for (k, part) in later.chunks_exact(OLD_RECORD_LENGTH).enumerate() {
+        subject = match add_old(subject, part) {
+            Ok(next) => next,
+            Err(number) => return refused(number, k + 1),
+        };
     }
-    let count = old.len() / OLD_RECORD_LENGTH;
-    let mut subject = first.subject;
-    let mut k: usize = 1;
-    while k < count {
-        let from = k * OLD_RECORD_LENGTH;
-        let to = from + OLD_RECORD_LENGTH;
-        let placed = add_old(subject, &old[from..to]);
-        let number = placed.number;
-        if number != 0 {
-            return refused(number, k);
-        }
-        let next = placed.subject;
-        subject = next;
-        k += 1;
-    }
-    file::end_file(subject, k - 1)
+    file::end_file(subject, later.len() / OLD_RECORD_LENGTH)
 }

@@ -5,35 +5,24 @@
 ghost use Rattle.converter.specs.Conversion.{Converts};
 
 use codec::{OLD_RECORD_LENGTH, RECORD_LENGTH};
-use file::{FileAnswer, FileRefusal};
+use file::FileRefusal;
 
 mod placing; // placing.rt: an old record opens a subject or is added to one
 mod judging; // judging.rt: an old file judged
 mod output; // output.rt: the records of an accepted file, written in the new form
 
-#[derive(Clone, Copy)]
-pub enum ConvertAnswer {
-    Refused(FileRefusal),
-    // How many bytes were written.
-    Done(usize),
-}
-
-// The whole file is judged before the first byte is stored.
-pub fn convert(old: &[u8], out: &mut [u8]) -> ConvertAnswer
+// How many bytes were written. The whole file is judged before the first byte is stored.
+pub fn convert(old: &[u8], out: &mut [u8]) -> Result<usize, FileRefusal>
     ensures { Converts old.now out.old result out.new }
 {
-    match judging::judge_old(old) {
-        FileAnswer::Refused(refusal) => ConvertAnswer::Refused(refusal),
-        FileAnswer::Accepted(_) => {
-            let size = old.len() / OLD_RECORD_LENGTH * RECORD_LENGTH;
-            if out.len() < size {
-                return ConvertAnswer::Refused(FileRefusal {
-                    number: 6,
-                    index: 0,
-                });
-            }
-            output::write_records(old, out);
-            ConvertAnswer::Done(size)
-        }
+    judging::judge_old(old)?;
+    let size = old.len() / OLD_RECORD_LENGTH * RECORD_LENGTH;
+    if out.len() < size {
+        return Err(FileRefusal {
+            number: 6,
+            index: 0,
+        });
     }
+    output::write_records(old, out);
+    Ok(size)
 }

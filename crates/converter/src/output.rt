@@ -14,20 +14,15 @@ fn write_record(part: &[u8], out: &mut [u8], at: usize)
     ensures { out.new ≡ take at out.old ++ (converted_part part.now ++ drop record_length (drop at out.old)) }
 {
     let read = codec::read_old(part);
-    let found = read.found;
-    writing::write(found, &mut out[at..]);
+    // Nothing refuses a record that was accepted, and there is room.
+    let _ = writing::write(read.found, &mut out[at..]);
 }
 
 pub(crate) fn write_records(old: &[u8], out: &mut [u8])
     requires { AllRead (parts_of old_form old.now) × (length (converted old.now) ≤ length out.old) }
     ensures { out.new ≡ converted old.now ++ drop (length (converted old.now)) out.old }
 {
-    let count = old.len() / OLD_RECORD_LENGTH;
-    let mut k: usize = 0;
-    while k < count {
-        let from = k * OLD_RECORD_LENGTH;
-        let to = from + OLD_RECORD_LENGTH;
-        write_record(&old[from..to], out, k * RECORD_LENGTH);
-        k += 1;
+    for (k, part) in old.chunks_exact(OLD_RECORD_LENGTH).enumerate() {
+        write_record(part, out, k * RECORD_LENGTH);
     }
 }

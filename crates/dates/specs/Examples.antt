@@ -1,13 +1,12 @@
 -- Document 01, "Dates and records", and document 02, request 2: the edges of the range, leap days, each month, the day before, and study days; the values of the
 -- declared cases. Proved in proofs/AtTheEdges.antt.
 -- Assumes nothing.
-use Rattle.std.specs.Prelude.{◌≡◌, true, false, List, [], ◌∷◌, map, ℕ}
+use Rattle.std.specs.Prelude.{◌≡◌, true, false, List, [], ◌∷◌, map, ℕ, Ok, Err}
 use Rattle.dates.specs.Calendar.{last_day_number, leap_year, date_exists, day_number}
 use Rattle.dates.specs.Answers.{Counted, day_number_values, study_day_values, day_number_of, study_day_of}
 use Rattle.dates.specs.Laws.{ymd}
 use Rattle.dates.specs.DayByDay.{first_date, day_before, number_by_cases}
-use Rattle.dates.specs.declared.DayNumberAnswer.TheVariants as N
-use Rattle.dates.specs.declared.StudyDayAnswer.TheVariants as S
+use Rattle.dates.specs.declared.StudyDayRefusal.TheVariants as S
 
 abbrev pub months : List ℕ
 months = 1 ∷ 2 ∷ 3 ∷ 4 ∷ 5 ∷ 6 ∷ 7 ∷ 8 ∷ 9 ∷ 10 ∷ 11 ∷ 12 ∷ []
@@ -84,5 +83,5 @@ pub record StudyDays : Type 0 where
 
 -- a number or a day; 3 no such date in range; 10 day too early
 pub record ValuesOfCases : Type 0 where
-  pub numbers : map day_number_values (N.Number (record { 0 = 365 }) ∷ N.NoSuchDate ∷ []) ≡ on 365 ∷ no_such_date ∷ []
-  pub days : map study_day_values (S.Day (record { 0 = 43 }) ∷ S.BeforeRandomisation ∷ S.NoSuchDate ∷ []) ≡ on 43 ∷ too_early ∷ no_such_date ∷ []
+  pub numbers : map day_number_values (Ok (record { 0 = 365 }) ∷ Err (record {}) ∷ []) ≡ on 365 ∷ no_such_date ∷ []
+  pub days : map study_day_values (Ok (record { 0 = 43 }) ∷ Err S.BeforeRandomisation ∷ Err S.NoSuchDate ∷ []) ≡ on 43 ∷ too_early ∷ no_such_date ∷ []

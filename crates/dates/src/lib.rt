@@ -5,6 +5,7 @@ ghost use Rattle.std.specs.Prelude.{◌≡◌, false, ◌+◌, ◌-◌, ◌≤�
 ghost use Rattle.laws.specs.Choice.{both, pick};
 ghost use Rattle.dates.specs.Calendar.{first_year, last_year, leap_year, days_in_month, date_exists, days_of_years, days_of_months};
 ghost use Rattle.dates.specs.Answers.{day_number_values, day_number_of, study_day_values, study_day_of};
+ghost use Rattle.dates.specs.declared.StudyDayRefusal.TheVariants as StudyDayRefusal;
 
 #[derive(Clone, Copy)]
 pub struct Date {
@@ -21,17 +22,23 @@ pub struct DayNumber(pub u16);
 #[derive(Clone, Copy)]
 pub struct StudyDay(pub u32);
 
+// A date that does not exist or is out of range.
 #[derive(Clone, Copy)]
-pub enum DayNumberAnswer {
-    Number(DayNumber),
+pub struct NoSuchDate;
+
+// Why a date has no study day.
+#[derive(Clone, Copy)]
+pub enum StudyDayRefusal {
+    BeforeRandomisation,
     NoSuchDate,
 }
 
-#[derive(Clone, Copy)]
-pub enum StudyDayAnswer {
-    Day(StudyDay),
-    BeforeRandomisation,
-    NoSuchDate,
+impl From<NoSuchDate> for StudyDayRefusal {
+    ghost from_gives = { λ _ refusal. refusal ≡ StudyDayRefusal.NoSuchDate };
+
+    fn from(_refusal: NoSuchDate) -> StudyDayRefusal {
+        StudyDayRefusal::NoSuchDate
+    }
 }
 
 const FIRST_YEAR: u16 = 1990;
@@ -104,32 +111,25 @@ fn days_before_year(year: u16, month: u8) -> u32
     }
 }
 
-pub fn day_number(date: Date) -> DayNumberAnswer
+pub fn day_number(date: Date) -> Result<DayNumber, NoSuchDate>
     ensures { day_number_values result ≡ day_number_of date }
 {
     if !date_exists(date) {
-        return DayNumberAnswer::NoSuchDate;
+        return Err(NoSuchDate);
     }
     let years = days_before_year(date.year, date.month);
     let months = days_before_month(date.month);
-    DayNumberAnswer::Number(DayNumber((years + months + date.day as u32) as u16))
+    Ok(DayNumber((years + months + date.day as u32) as u16))
 }
 
 // The only way from calendar dates to study days.
-pub fn study_day(date: Date, randomisation: Date) -> StudyDayAnswer
+pub fn study_day(date: Date, randomisation: Date) -> Result<StudyDay, StudyDayRefusal>
     ensures { study_day_values result ≡ study_day_of date randomisation }
 {
-    match day_number(date) {
-        DayNumberAnswer::NoSuchDate => StudyDayAnswer::NoSuchDate,
-        DayNumberAnswer::Number(day) => match day_number(randomisation) {
-            DayNumberAnswer::NoSuchDate => StudyDayAnswer::NoSuchDate,
-            DayNumberAnswer::Number(first) => {
-                if first.0 <= day.0 {
-                    StudyDayAnswer::Day(StudyDay((day.0 - first.0) as u32 + 1))
-                } else {
-                    StudyDayAnswer::BeforeRandomisation
-                }
-            }
-        },
+    let day = day_number(date)?;
+    let first = day_number(randomisation)?;
+    if day.0 < first.0 {
+        return Err(StudyDayRefusal::BeforeRandomisation);
     }
+    Ok(StudyDay((day.0 - first.0) as u32 + 1))
 }

@@ -2,224 +2,264 @@
 // held, is worked out by hand from document 01.
 #![tactic(auto)]
 
+// The last reading is printed, and needed no more.
+fn show_history(rt: &impl Print, name: &[u8], bytes: &[u8]) {
+    let _ = history::show_history(rt, name, bytes);
+}
+
 // Opening, adding and reading, with refused additions, a therapy and a missing baseline.
-fn held_subjects() {
+fn held_subjects(rt: &impl Print) {
     // Baseline with targets 40 and node 20 and non-target disease; visits on days 43 (24, 12), 85 (0, 9) and 127 (0, 15), all NN.
-    history::show_history(
+    show_history(
+        rt,
         b"the printed example\n",
         b"\x2F\xC8\x21\xD0\x32\x10\x64\x00\x00\x00\x00\x00\x00\x4F\xC8\x4C\x48\x3C\x20\x78\x00\x00\x00\x00\x00\x00\x4F\xC8\x79\x48\x00\x20\x5A\x00\x00\x00\x00\x00\x00\x4F\xC8\xA6\x48\x00\x20\x96\x00\x00\x00\x00\x00\x00",
     );
     // The baseline and the first visit of the printed example; refused: a new lesion on day 43 (10), with status NA on day 44 (11), the baseline again (8), thirteen
     // zeros, which reading refuses by 2 and adding, as the blank record, by 3, a death on day 42 (10) and a therapy on day 42 (10);
     // visits on days 85 (24, 12) and 127 (24, 30), death on day 130; refused: therapy on day 131 (9).
-    history::show_history(
+    show_history(
+        rt,
         b"refused additions\n",
         b"\x2F\xC8\x21\xD0\x32\x10\x64\x00\x00\x00\x00\x00\x00\x4F\xC8\x4C\x48\x3C\x20\x78\x00\x00\x00\x00\x00\x00\x4F\xC8\x4C\x58\x3C\x20\x78\x00\x00\x00\x00\x00\x00\x4F\xC8\x4D\x08\x3C\x20\x78\x00\x00\x00\x00\x00\x00\x2F\xC8\x21\xD0\x32\x10\x64\x00\x00\x00\x00\x00\x00\x00\x00\x00\x00\x00\x00\x00\x00\x00\x00\x00\x00\x00\x8F\xC8\x4B\x00\x00\x00\x00\x00\x00\x00\x00\x00\x00\x6F\xC8\x4B\x00\x00\x00\x00\x00\x00\x00\x00\x00\x00\x4F\xC8\x79\x48\x3C\x20\x78\x00\x00\x00\x00\x00\x00\x4F\xC8\xA6\x48\x3C\x21\x2C\x00\x00\x00\x00\x00\x00\x8F\xC8\xA9\x00\x00\x00\x00\x00\x00\x00\x00\x00\x00\x6F\xC8\xAA\x00\x00\x00\x00\x00\x00\x00\x00\x00\x00",
     );
     // The baseline of the printed example; visits on days 43 (24, 12), 85 (24, 12) and 127 (24, 30), therapy on day 50.
-    history::show_history(
+    show_history(
+        rt,
         b"therapy before the response is confirmed\n",
         b"\x2F\xC8\x21\xD0\x32\x10\x64\x00\x00\x00\x00\x00\x00\x4F\xC8\x4C\x48\x3C\x20\x78\x00\x00\x00\x00\x00\x00\x6F\xC8\x53\x00\x00\x00\x00\x00\x00\x00\x00\x00\x00\x4F\xC8\x79\x48\x3C\x20\x78\x00\x00\x00\x00\x00\x00\x4F\xC8\xA6\x48\x3C\x21\x2C\x00\x00\x00\x00\x00\x00",
     );
     // The baseline of the printed example.
-    history::show_history(
+    show_history(
+        rt,
         b"a baseline alone\n",
         b"\x2F\xC8\x21\xD0\x32\x10\x64\x00\x00\x00\x00\x00\x00",
     );
     // The baseline of the printed example; death on day 92.
-    history::show_history(
+    show_history(
+        rt,
         b"death without visits\n",
         b"\x2F\xC8\x21\xD0\x32\x10\x64\x00\x00\x00\x00\x00\x00\x8F\xC8\x81\x00\x00\x00\x00\x00\x00\x00\x00\x00\x00",
     );
     // A baseline that is missing; therapy on day 92.
-    history::show_history(
+    show_history(
+        rt,
         b"baseline missing\n",
         b"\x2F\xC8\x21\x00\x00\x00\x00\x00\x00\x00\x00\x00\x00\x6F\xC8\x81\x00\x00\x00\x00\x00\x00\x00\x00\x00\x00",
     );
     // A baseline that is missing; a visit on day 43 with a new lesion.
-    history::show_history(
+    show_history(
+        rt,
         b"baseline missing, new lesion\n",
         b"\x2F\xC8\x21\x00\x00\x00\x00\x00\x00\x00\x00\x00\x00\x4F\xC8\x4C\x10\x00\x00\x00\x00\x00\x00\x00\x00\x00",
     );
 }
 
 // Examples 7, 11 and 14, and a confirmed complete response.
-fn edges() {
+fn edges(rt: &impl Print) {
     // One target of 20; visits on days 43 (0), 60 (not measured) and 71 (0).
-    history::show_history(
+    show_history(
+        rt,
         b"complete response confirmed\n",
         b"\x2F\xC8\x21\x88\x19\x00\x00\x00\x00\x00\x00\x00\x00\x4F\xC8\x4C\x08\x00\x00\x00\x00\x00\x00\x00\x00\x00\x4F\xC8\x5D\x00\x00\x00\x00\x00\x00\x00\x00\x00\x00\x4F\xC8\x6B\x08\x00\x00\x00\x00\x00\x00\x00\x00\x00",
     );
     // One target of 20; visits on days 162 (20) and 288 (30).
-    history::show_history(
+    show_history(
+        rt,
         b"example 7, day 288\n",
         b"\x2F\xC8\x21\x88\x19\x00\x00\x00\x00\x00\x00\x00\x00\x4F\xC8\xCA\x08\x32\x00\x00\x00\x00\x00\x00\x00\x00\x4F\xC9\x4E\x08\x4B\x00\x00\x00\x00\x00\x00\x00\x00",
     );
     // One target of 20; visits on days 162 (20) and 289 (30).
-    history::show_history(
+    show_history(
+        rt,
         b"example 7, day 289\n",
         b"\x2F\xC8\x21\x88\x19\x00\x00\x00\x00\x00\x00\x00\x00\x4F\xC8\xCA\x08\x32\x00\x00\x00\x00\x00\x00\x00\x00\x4F\xC9\x4F\x08\x4B\x00\x00\x00\x00\x00\x00\x00\x00",
     );
     // One target of 20; a visit on day 35 (20).
-    history::show_history(
+    show_history(
+        rt,
         b"example 11, day 35\n",
         b"\x2F\xC8\x21\x88\x19\x00\x00\x00\x00\x00\x00\x00\x00\x4F\xC8\x44\x08\x32\x00\x00\x00\x00\x00\x00\x00\x00",
     );
     // One target of 20; a visit on day 36 (20).
-    history::show_history(
+    show_history(
+        rt,
         b"example 11, day 36\n",
         b"\x2F\xC8\x21\x88\x19\x00\x00\x00\x00\x00\x00\x00\x00\x4F\xC8\x45\x08\x32\x00\x00\x00\x00\x00\x00\x00\x00",
     );
     // Targets 70 and 30; visits on days 43 (40, 10) and 85 (62, not measured).
-    history::show_history(
+    show_history(
+        rt,
         b"example 14\n",
         b"\x2F\xC8\x21\x90\x57\x80\x96\x00\x00\x00\x00\x00\x00\x4F\xC8\x4C\x08\x64\x20\x64\x00\x00\x00\x00\x00\x00\x4F\xC8\x79\x08\x9B\x00\x00\x00\x00\x00\x00\x00\x00",
     );
 }
 
 // Non-target answers CR, NN, NE and PD, with targets and without.
-fn nontarget_disease() {
+fn nontarget_disease(rt: &impl Print) {
     // The baseline of the printed example; visits on days 43 (0, 9), 85, 127 and 169 (all the same), with CR, NE, CR and PD.
-    history::show_history(
+    show_history(
+        rt,
         b"example 13, and a progression of non-target disease\n",
         b"\x2F\xC8\x21\xD0\x32\x10\x64\x00\x00\x00\x00\x00\x00\x4F\xC8\x4C\x28\x00\x20\x5A\x00\x00\x00\x00\x00\x00\x4F\xC8\x79\x88\x00\x20\x5A\x00\x00\x00\x00\x00\x00\x4F\xC8\xA6\x28\x00\x20\x5A\x00\x00\x00\x00\x00\x00\x4F\xC8\xD1\x68\x00\x20\x5A\x00\x00\x00\x00\x00\x00",
     );
     // No targets, non-target disease; visits on days 43 (NN), 85 (CR) and 127 (CR).
-    history::show_history(
+    show_history(
+        rt,
         b"non-target disease alone\n",
         b"\x2F\xC8\x21\xC0\x00\x00\x00\x00\x00\x00\x00\x00\x00\x4F\xC8\x4C\x40\x00\x00\x00\x00\x00\x00\x00\x00\x00\x4F\xC8\x79\x20\x00\x00\x00\x00\x00\x00\x00\x00\x00\x4F\xC8\xA6\x20\x00\x00\x00\x00\x00\x00\x00\x00\x00",
     );
 }
 
 // Progressions and deaths, with gaps before them.
-fn endings() {
+fn endings(rt: &impl Print) {
     // One target of 20; visits on days 43 (not measured) and 141 (30).
-    history::show_history(
+    show_history(
+        rt,
         b"gap from a visit that is not evaluable\n",
         b"\x2F\xC8\x21\x88\x19\x00\x00\x00\x00\x00\x00\x00\x00\x4F\xC8\x4C\x00\x00\x00\x00\x00\x00\x00\x00\x00\x00\x4F\xC8\xB4\x08\x4B\x00\x00\x00\x00\x00\x00\x00\x00",
     );
     // One target of 20; visits on days 43 (20) and 200 (20), death on day 200.
-    history::show_history(
+    show_history(
+        rt,
         b"death on a visit's day\n",
         b"\x2F\xC8\x21\x88\x19\x00\x00\x00\x00\x00\x00\x00\x00\x4F\xC8\x4C\x08\x32\x00\x00\x00\x00\x00\x00\x00\x00\x4F\xC8\xF2\x08\x32\x00\x00\x00\x00\x00\x00\x00\x00\x8F\xC8\xF2\x00\x00\x00\x00\x00\x00\x00\x00\x00\x00",
     );
     // One target of 20; a visit on day 43 (not measured), death on day 93.
-    history::show_history(
+    show_history(
+        rt,
         b"death on day 93 without an evaluable visit\n",
         b"\x2F\xC8\x21\x88\x19\x00\x00\x00\x00\x00\x00\x00\x00\x4F\xC8\x4C\x00\x00\x00\x00\x00\x00\x00\x00\x00\x00\x8F\xC8\x82\x00\x00\x00\x00\x00\x00\x00\x00\x00\x00",
     );
     // One target of 20; a visit on day 93 (30).
-    history::show_history(
+    show_history(
+        rt,
         b"progression behind two missed visits\n",
         b"\x2F\xC8\x21\x88\x19\x00\x00\x00\x00\x00\x00\x00\x00\x4F\xC8\x82\x08\x4B\x00\x00\x00\x00\x00\x00\x00\x00",
     );
     // The baseline of the printed example; therapy and death on day 1.
-    history::show_history(
+    show_history(
+        rt,
         b"therapy and death on day 1\n",
         b"\x2F\xC8\x21\xD0\x32\x10\x64\x00\x00\x00\x00\x00\x00\x6F\xC8\x21\x00\x00\x00\x00\x00\x00\x00\x00\x00\x00\x8F\xC8\x21\x00\x00\x00\x00\x00\x00\x00\x00\x00\x00",
     );
     // One target of 20; a visit on day 43 (20) with a new lesion.
-    history::show_history(
+    show_history(
+        rt,
         b"a new lesion\n",
         b"\x2F\xC8\x21\x88\x19\x00\x00\x00\x00\x00\x00\x00\x00\x4F\xC8\x4C\x18\x32\x00\x00\x00\x00\x00\x00\x00\x00",
     );
 }
 
 // The change, growth and the nadir.
-fn changes() {
+fn changes(rt: &impl Print) {
     // Five targets of 500; a visit on day 43 (500, 500, 500, 500, 499), which is -0.04 %.
-    history::show_history(
+    show_history(
+        rt,
         b"a change that rounds to zero\n",
         b"\x2F\xC8\x21\xAA\x71\x09\xC4\x27\x10\x9C\x42\x71\x00\x4F\xC8\x4C\x0C\xE2\x33\x88\xCE\x23\x38\x8C\xDF\x80",
     );
     // Four targets of 500; a visit on day 43 (500, 500, 500, 499), which is -0.05 %.
-    history::show_history(
+    show_history(
+        rt,
         b"a half tenth, away from zero\n",
         b"\x2F\xC8\x21\xA2\x71\x09\xC4\x27\x10\x9C\x40\x00\x00\x4F\xC8\x4C\x0C\xE2\x33\x88\xCE\x23\x37\xE0\x00\x00",
     );
     // One target of 200; visits on days 43 (199) and 85 (201).
-    history::show_history(
+    show_history(
+        rt,
         b"half a percent either way\n",
         b"\x2F\xC8\x21\x88\xFA\x00\x00\x00\x00\x00\x00\x00\x00\x4F\xC8\x4C\x09\xF1\x80\x00\x00\x00\x00\x00\x00\x00\x4F\xC8\x79\x09\xF6\x80\x00\x00\x00\x00\x00\x00\x00",
     );
     // One target of 401; a visit on day 43 (481), which is less than 20 % more.
-    history::show_history(
+    show_history(
+        rt,
         b"growth that is not rounded\n",
         b"\x2F\xC8\x21\x89\xF5\x40\x00\x00\x00\x00\x00\x00\x00\x4F\xC8\x4C\x0C\xB2\x80\x00\x00\x00\x00\x00\x00\x00",
     );
     // One target of 100; visits on days 43 (50), 85 (20) and 127 (26), therapy on day 50.
-    history::show_history(
+    show_history(
+        rt,
         b"nadir after a therapy\n",
         b"\x2F\xC8\x21\x88\x7D\x00\x00\x00\x00\x00\x00\x00\x00\x4F\xC8\x4C\x08\x7D\x00\x00\x00\x00\x00\x00\x00\x00\x6F\xC8\x53\x00\x00\x00\x00\x00\x00\x00\x00\x00\x00\x4F\xC8\x79\x08\x32\x00\x00\x00\x00\x00\x00\x00\x00\x4F\xC8\xA6\x08\x41\x00\x00\x00\x00\x00\x00\x00\x00",
     );
 }
 
 // Responses before a complete one, and visits after a therapy and after a progression.
-fn later_visits() {
+fn later_visits(rt: &impl Print) {
     // One target of 100; visits on days 43 (60), 85 (0) and 127 (0).
-    history::show_history(
+    show_history(
+        rt,
         b"a partial response before a confirmed complete one\n",
         b"\x2F\xC8\x21\x88\x7D\x00\x00\x00\x00\x00\x00\x00\x00\x4F\xC8\x4C\x08\x96\x00\x00\x00\x00\x00\x00\x00\x00\x4F\xC8\x79\x08\x00\x00\x00\x00\x00\x00\x00\x00\x00\x4F\xC8\xA6\x08\x00\x00\x00\x00\x00\x00\x00\x00\x00",
     );
     // One target of 100; visits on days 43 (90), 141 (90) and 200 (200), therapy on day 50. From day 43 two visits would be missed.
-    history::show_history(
+    show_history(
+        rt,
         b"a visit after a therapy before the progression\n",
         b"\x2F\xC8\x21\x88\x7D\x00\x00\x00\x00\x00\x00\x00\x00\x4F\xC8\x4C\x08\xE1\x00\x00\x00\x00\x00\x00\x00\x00\x6F\xC8\x53\x00\x00\x00\x00\x00\x00\x00\x00\x00\x00\x4F\xC8\xB4\x08\xE1\x00\x00\x00\x00\x00\x00\x00\x00\x4F\xC8\xF2\x09\xF4\x00\x00\x00\x00\x00\x00\x00\x00",
     );
     // One target of 100; visits on days 43 (90), 85 (90) and 300 (200), therapy on day 50.
-    history::show_history(
+    show_history(
+        rt,
         b"censored at a visit after a therapy\n",
         b"\x2F\xC8\x21\x88\x7D\x00\x00\x00\x00\x00\x00\x00\x00\x4F\xC8\x4C\x08\xE1\x00\x00\x00\x00\x00\x00\x00\x00\x6F\xC8\x53\x00\x00\x00\x00\x00\x00\x00\x00\x00\x00\x4F\xC8\x79\x08\xE1\x00\x00\x00\x00\x00\x00\x00\x00\x4F\xC9\x5A\x09\xF4\x00\x00\x00\x00\x00\x00\x00\x00",
     );
     // One target of 100; visits on days 43 (90), 85 (200), 127 (50) and 169 (60), which is a fifth more than the nadir of day 127.
-    history::show_history(
+    show_history(
+        rt,
         b"visits after a progression\n",
         b"\x2F\xC8\x21\x88\x7D\x00\x00\x00\x00\x00\x00\x00\x00\x4F\xC8\x4C\x08\xE1\x00\x00\x00\x00\x00\x00\x00\x00\x4F\xC8\x79\x09\xF4\x00\x00\x00\x00\x00\x00\x00\x00\x4F\xC8\xA6\x08\x7D\x00\x00\x00\x00\x00\x00\x00\x00\x4F\xC8\xD1\x08\x96\x00\x00\x00\x00\x00\x00\x00\x00",
     );
 }
 
 // Targets that differ in their marks and sizes.
-fn several_targets() {
+fn several_targets(rt: &impl Print) {
     // Targets 21, 32, 43, 54 and 65, of which the first, third and fifth are nodes, and non-target disease; visits on days 43 (11, 22, not measured, 44, 50), 85 (15, 22,
     // 30, 37, 46), 127 (9, 0, 9, 0, 9) and 169 (9, 6, 9, 0, 9), all NN.
-    history::show_history(
+    show_history(
+        rt,
         b"five targets, nodes and others in turn\n",
         b"\x2F\xC8\x21\xEC\x1A\x40\xA0\x43\x5C\x10\xE4\x51\x40\x4F\xC8\x4C\x48\x1B\xA0\xDC\x00\x02\x1B\x88\x7D\x00\x4F\xC8\x79\x48\x25\xA0\xDC\x84\xB2\x17\x28\x73\x00\x4F\xC8\xA6\x48\x16\xA0\x00\x81\x6A\x00\x08\x16\x80\x4F\xC8\xD1\x48\x16\xA0\x3C\x81\x6A\x00\x08\x16\x80",
     );
     // Targets 30, node 20 and 40; a visit on day 43 (20, 9, 30).
-    history::show_history(
+    show_history(
+        rt,
         b"three targets\n",
         b"\x2F\xC8\x21\x98\x25\x90\x64\x03\x20\x00\x00\x00\x00\x4F\xC8\x4C\x08\x32\x20\x5A\x84\xB0\x00\x00\x00\x00",
     );
 }
 
 // Sizes that are no whole millimetres (document 02, request 1).
-fn tenths_of_a_millimetre() {
+fn tenths_of_a_millimetre(rt: &impl Print) {
     // The baseline of the printed example; visits on days 43 (0, 9.9) and 85 (0, 10.0), all NN.
-    history::show_history(
+    show_history(
+        rt,
         b"a node of 9.9 and of 10.0 mm\n",
         b"\x2F\xC8\x21\xD0\x32\x10\x64\x00\x00\x00\x00\x00\x00\x4F\xC8\x4C\x48\x00\x20\x63\x00\x00\x00\x00\x00\x00\x4F\xC8\x79\x48\x00\x20\x64\x00\x00\x00\x00\x00\x00",
     );
     // One target of 100; visits on days 43 (15.3), 85 (20.2) and 127 (20.3).
-    history::show_history(
+    show_history(
+        rt,
         b"growth by 4.9 and by 5.0 mm\n",
         b"\x2F\xC8\x21\x88\x7D\x00\x00\x00\x00\x00\x00\x00\x00\x4F\xC8\x4C\x08\x26\x40\x00\x00\x00\x00\x00\x00\x00\x4F\xC8\x79\x08\x32\x80\x00\x00\x00\x00\x00\x00\x00\x4F\xC8\xA6\x08\x32\xC0\x00\x00\x00\x00\x00\x00\x00",
     );
     // One target of 12.4; visits on days 43 (8.6) and 85 (8.7), which is more than seven tenths of it.
-    history::show_history(
+    show_history(
+        rt,
         b"less than seven tenths, and more\n",
         b"\x2F\xC8\x21\x88\x0F\x80\x00\x00\x00\x00\x00\x00\x00\x4F\xC8\x4C\x08\x15\x80\x00\x00\x00\x00\x00\x00\x00\x4F\xC8\x79\x08\x15\xC0\x00\x00\x00\x00\x00\x00\x00",
     );
 }
 
 // In each history the records stand in the order recorded, and randomisation is on 2020-01-01. Sizes are given in millimetres.
-fn main() {
-    held_subjects();
-    edges();
-    nontarget_disease();
-    endings();
-    changes();
-    later_visits();
-    several_targets();
-    tenths_of_a_millimetre();
+fn main(rt: HostRuntime) {
+    held_subjects(&rt);
+    edges(&rt);
+    nontarget_disease(&rt);
+    endings(&rt);
+    changes(&rt);
+    later_visits(&rt);
+    several_targets(&rt);
+    tenths_of_a_millimetre(&rt);
 }

@@ -9,13 +9,14 @@ use lib.Dec.{ltb}
 use borrow.Author.Tests.{ltb-true, ltb-false}
 use lib.ListN.{get_or, length, take, drop, get_or-eq_default, length-take}
 use lib.Seq.{get_or-take, get_or-drop}
+use Rattle.std.specs.Prelude.{Ok, Err}
 use Rattle.laws.proofs.SomeCase.{Some}
 use Rattle.laws.proofs.FirstRefusal.{among}
 use Rattle.laws.specs.Layout.{AreBytes}
 use Rattle.records.specs.declared.OwnRefusal.TheVariants as W
 use Rattle.records.specs.Entries.{Five}
 use Rattle.records.specs.Forms.{new_form}
-use Rattle.codec.specs.declared.ReadAnswer.TheVariants as R
+use Rattle.codec.specs.declared.ReadRefusal.TheVariants as R
 use Rattle.codec.specs.declared.ReadResult.{ReadResult}
 use Rattle.codec.specs.Bytes.{record_length}
 use Rattle.codec.specs.Reading.{read_number, refusals_of_bytes, refusal_of_bytes, record_of_bytes, Reads}
@@ -33,8 +34,8 @@ use Rattle.codec.proofs.PartsJoined.{one_part}
 -- each number that refuses bytes, and 0, is that of some case of reading's answer
 some_bytes : (s : List ℕ) → Some read_number (refusal_of_bytes new_form s)
 some_bytes s =
-    among (Some read_number) (refusals_of_bytes new_form s) (R.Done, refl)
-    (each_of_bytes new_form (Some read_number) (R.WrongLength, refl) (R.NoSuchKind, refl) (R.Refused W.NoSuchDate, refl) (R.Refused W.OutsideLimits, refl) (R.Refused W.NotZero, refl) s)
+    among (Some read_number) (refusals_of_bytes new_form s) (Ok tt, refl)
+    (each_of_bytes new_form (Some read_number) (Err R.WrongLength, refl) (Err R.NoSuchKind, refl) (Err (R.Own W.NoSuchDate), refl) (Err (R.Own W.OutsideLimits), refl) (Err (R.Own W.NotZero), refl) s)
 
 -- reading has an answer
 some_read : (part : List ℕ) → AreBytes part → (x : ReadResult) × Reads part x

@@ -9,6 +9,7 @@ use native.Mathlib.Omega.{arith}
 use lib.Dec.{eqb}
 use borrow.Author.Tests.{eq-eqb, eqb-true}
 use lib.ListN.{length}
+use Rattle.std.specs.Prelude.{Result}
 use Rattle.laws.specs.Choice.{pick}
 use Rattle.laws.specs.Refusals.{Refusal, first}
 use Rattle.records.specs.declared.Record.{Record}
@@ -24,13 +25,12 @@ use Rattle.outcome_rules.specs.StudyRecords.{on_study_days}
 use Rattle.outcome_rules.specs.VisitLines.{VisitLine, lines_in_order}
 use Rattle.outcome_rules.specs.Adding.{refusals_of_opening, refusal_of_opening, refusals_of_adding}
 use Rattle.subject.specs.declared.Subject.{Subject}
-use Rattle.subject.specs.declared.OpenAnswer.{OpenAnswer}
+use Rattle.subject.specs.declared.OpenRefusal.{OpenRefusal}
 use Rattle.subject.specs.Opening.{open_number, Opens}
-use Rattle.adding.specs.declared.AddAnswer.{AddAnswer}
+use Rattle.adding.specs.Refusals.{AddAnswer}
 use Rattle.adding.specs.Responses.{add_responses}
 use Rattle.adding.specs.Refusals.{add_number}
 use Rattle.adding.specs.Promises.{Adds}
-use Rattle.outcome.specs.declared.OutcomeAnswer.{OutcomeAnswer}
 use Rattle.outcome.specs.ReadingOutcome.{outcome, reading_values, ReadsOutcome}
 use Rattle.codec.specs.Parts.{bad_length, parts_of}
 use Rattle.file.specs.Verdict.{refusal_of_part, Verdict, refused, accepted, verdict_on, verdict_from, verdict_of}
@@ -39,6 +39,8 @@ use Rattle.file.proofs.VerdictsApart.{apart, accepted_same}
 use Rattle.codec.proofs.PartsJoined.{length_parts, cut}
 use Rattle.file.proofs.EveryPartAnswered.{called}
 use Rattle.file.proofs.FileFollowsRecords.{Taken, none_read, alone, opened_taken, adding, more, lines_more, EndsBy, read_verdict}
+use Rattle.outcome.specs.declared.OutcomeResult.{OutcomeResult}
+use Rattle.outcome.specs.declared.OutOfRange.{OutOfRange}
 
 -- reading's number, then the other, is the part's refusal
 read_then : (part : List ℕ) (x : ReadResult) (n : ℕ) (others : List Refusal) → Reads part x → n ≡ first others →
@@ -123,7 +125,7 @@ later_parts rs k {t = u} h (adds {t = t} {part = part} {x = x} {a = a} {ps = ps}
         rw stops (ap (λ (n : ℕ). refused n k) (sym number_here))
 
 -- the whole file, by its first part
-module _ {s u : Subject} {part : List ℕ} {x : ReadResult} {a : OpenAnswer} {ps : List (List ℕ)} {ns : List ℕ} {ls : List VisitLine}
+module _ {s u : Subject} {part : List ℕ} {x : ReadResult} {a : Result (Unit {0}) OpenRefusal} {ps : List (List ℕ)} {ns : List ℕ} {ls : List VisitLine}
     (w : Reads part x) (v : Opens x.found a s) (c : AddsParts s ps ns ls u) where
   opening : first_number x (open_number a) ≡ refusal_of_part new_form [] part
   opening = read_then part x (open_number a) (refusals_of_opening new_unit (record_of_bytes new_form part)) w (v.answer ∙ ap (refusal_of_opening new_unit) w.found)
@@ -182,12 +184,12 @@ module _ (s : List ℕ) {ns : List ℕ} {ls : List VisitLine} {t : Subject} (c :
     same_lines : lines_in_order (on_study_days new_unit (map (record_of_bytes new_form) (parts_of new_form s))) ≡ ls
     same_lines = ap (λ (l : List Record). lines_in_order (on_study_days new_unit l)) (sym end.whole) ∙ end.lines
 
-    otherwise : {q : OutcomeAnswer} → ReadsOutcome t q → EndsBy (verdict_of new_form s) (length s / record_length - 1) q
+    otherwise : {q : Result OutcomeResult OutOfRange} → ReadsOutcome t q → EndsBy (verdict_of new_form s) (length s / record_length - 1) q
     otherwise w =
         let same : 0 + length (parts_of new_form s) - 1 ≡ length s / record_length - 1 = omega (arith, length_parts new_form (length s / record_length) s) in
         rw (end.verdict ∙ ap (verdict_on (on_study_days new_unit end.all)) same) (read_verdict end.taken (length s / record_length - 1) w)
 
-module _ (s : List ℕ) {ns : List ℕ} {ls : List VisitLine} {t : Subject} {q : OutcomeAnswer} {o : Outcome} (e : verdict_of new_form s ≡ accepted o) (c : CallsOnParts (parts_of new_form s) ns ls t) (w : ReadsOutcome t q) where
+module _ (s : List ℕ) {ns : List ℕ} {ls : List VisitLine} {t : Subject} {q : Result OutcomeResult OutOfRange} {o : Outcome} (e : verdict_of new_form s ≡ accepted o) (c : CallsOnParts (parts_of new_form s) ns ls t) (w : ReadsOutcome t q) where
   fair : bad_length new_form (length s) ≡ false
   unfolding verdict_of
   fair = go (bad_length new_form (length s)) refl

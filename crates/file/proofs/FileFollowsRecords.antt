@@ -9,6 +9,7 @@ use Prim.Native.Nat.{ℕ}
 use native.Mathlib.Omega.{arith}
 use lib.Dec.{eqb}
 use borrow.Author.Tests.{eq-eqb, eqb-true, eqb-false}
+use Rattle.std.specs.Prelude.{Result, Result, Ok}
 use Rattle.laws.specs.Choice.{pick}
 use Rattle.laws.specs.Refusals.{Refusal, ◌when◌, first}
 use Rattle.laws.proofs.FirstRefusal.{none_of_both}
@@ -33,22 +34,22 @@ use Rattle.outcome_rules.proofs.RefusalsOfAdding.{own_passed}
 use Rattle.subject.specs.declared.Subject.{Subject}
 use Rattle.subject.specs.Summary.{counting_of, summary}
 use Rattle.subject.proofs.HeldFollowsVisits.{day_of_maybe}
-use Rattle.subject.specs.declared.OpenAnswer.{OpenAnswer}
-use Rattle.subject.specs.declared.OpenAnswer.TheVariants as N
+use Rattle.subject.specs.declared.OpenRefusal.{OpenRefusal}
 use Rattle.subject.specs.Opening.{open_number, subject_of_entry, opened_subject, Opens, OpensBytes}
 use Rattle.subject.proofs.HeldAfterBaseline.{opening_follows}
-use Rattle.adding.specs.declared.AddAnswer.{AddAnswer}
+use Rattle.adding.specs.Refusals.{AddAnswer}
 use Rattle.adding.specs.Responses.{add_responses}
 use Rattle.adding.specs.Refusals.{add_number}
 use Rattle.adding.specs.Promises.{Adds, AddsBytes}
-use Rattle.outcome.specs.declared.OutcomeAnswer.{OutcomeAnswer}
 use Rattle.outcome.specs.ReadingOutcome.{pfs_held, duration_held, outcome_of, outcome, reading_values, ReadsOutcome}
 use Rattle.outcome.proofs.CallsFollowRecords.{pfs_held_lem, duration_held_lem, outcome_held}
 use Rattle.outcome.proofs.CallsInRange.{calls_in_range, reading_in_range}
 use Rattle.outcome.proofs.Demand3.{opened_with, base, on_day_lem, past, past_one_more, Held, number, responses, one_more_held}
-use Rattle.file.specs.declared.FileAnswer.{FileAnswer}
 use Rattle.file.specs.Verdict.{refusal_of_part, Verdict, refused, accepted, unless_refused, starts_late, verdict_on, file_values}
 use Rattle.file.specs.Ending.{verdict_held, EndsFile}
+use Rattle.outcome.specs.declared.OutcomeResult.{OutcomeResult}
+use Rattle.outcome.specs.declared.OutOfRange.{OutOfRange}
+use Rattle.file.specs.declared.FileRefusal.{FileRefusal}
 
 -- the subject is what is held after the records, which open with a baseline that 4 and 5 do not meet
 pub record Taken (rs : List Record) (s : Subject) : Type 0 where
@@ -87,7 +88,7 @@ alone d (E.Visit v) marks sizes = refl
 alone d (E.Therapy x) marks sizes = refl
 alone d (E.Death x) marks sizes = refl
 
-pub opened_taken : {a : OpenAnswer} {s : Subject} (e : Entry) (marks : List Bool) (sizes : List ℕ) → Opens (record { entry = e; sizes = sizes; marks = marks }) a s →
+pub opened_taken : {a : Result (Unit {0}) OpenRefusal} {s : Subject} (e : Entry) (marks : List Bool) (sizes : List ℕ) → Opens (record { entry = e; sizes = sizes; marks = marks }) a s →
     open_number a ≡ 0 → first (7 when not_baseline e ∷ []) ≡ 0 → Taken (record { entry = e; sizes = sizes; marks = marks } ∷ []) s
 unfolding opened_subject refusals_of_opening
 opened_taken (E.Baseline x) marks sizes w z n =
@@ -105,12 +106,12 @@ opened_taken (E.Visit v) marks sizes w z n = absurd (let f : ⊥ = omega arith i
 opened_taken (E.Therapy d) marks sizes w z n = absurd (let f : ⊥ = omega arith in f)
 opened_taken (E.Death d) marks sizes w z n = absurd (let f : ⊥ = omega arith in f)
 
-pub first_taken : (part : List ℕ) (a : OpenAnswer) (s : Subject) → OpensBytes part a s → open_number a ≡ 0 → Taken (record_of_bytes new_form part ∷ []) s
+pub first_taken : (part : List ℕ) (a : Result (Unit {0}) OpenRefusal) (s : Subject) → OpensBytes part a s → open_number a ≡ 0 → Taken (record_of_bytes new_form part ∷ []) s
 unfolding refusals_of_opening
 first_taken part a s w z =
     let r = record_of_bytes new_form part in
     let none = (none_read part (refusals_of_opening new_unit r) (sym w.answer ∙ z)).1 in
-    let opened : Opens r N.Done s = record { answer = sym none; made = w.made; five = found_five new_form part } in
+    let opened : Opens r (Ok tt) s = record { answer = sym none; made = w.made; five = found_five new_form part } in
     opened_taken r.entry r.marks r.sizes opened refl
     ((none_after_own new_unit r _).0 none).1
 
@@ -159,7 +160,7 @@ module _ {rs : List Record} {s t : Subject} {part : List ℕ} {a : AddAnswer} (h
 -- ---- behind the last record
 
 -- 14, or the outcome of a reading
-abbrev pub EndsBy : Verdict → ℕ → OutcomeAnswer → Type 0
+abbrev pub EndsBy : Verdict → ℕ → Result OutcomeResult OutOfRange → Type 0
 EndsBy v last q = (v ≡ refused 14 last) ⊎ ((o : Outcome) × (reading_values q ≡ outcome o) × (v ≡ accepted o))
 
 module _ {rs : List Record} {s : Subject} (t : Taken rs s) (last : ℕ) where
@@ -192,12 +193,12 @@ module _ {rs : List Record} {s : Subject} (t : Taken rs s) (last : ℕ) where
   verdict_taken : verdict_in s ≡ verdict_on (on_study_days new_unit rs) last
   verdict_taken = ap verdict_in t.held.same ∙ verdict_held_lem ∙ ap (λ (l : List Record). verdict_on (on_study_days new_unit l) last) (sym t.opens)
 
-  pub read_verdict : {q : OutcomeAnswer} → ReadsOutcome s q → EndsBy (verdict_on (on_study_days new_unit rs) last) last q
+  pub read_verdict : {q : Result OutcomeResult OutOfRange} → ReadsOutcome s q → EndsBy (verdict_on (on_study_days new_unit rs) last) last q
   read_verdict {q} w = rw (← verdict_taken) (go (starts_late (duration_held s) (day_value s.followup.counting.firstresponse) (pfs_held s)))
     where
       go : (late : Bool) → EndsBy (unless_refused (14 when late ∷ []) last (accepted (outcome_of s))) last q
       go true = inl refl
       go false = inr (outcome_of s, w.answer ∙ reading_in_range s t.held.inside, refl)
 
-  pub ending : (a : FileAnswer) → EndsFile s last a → file_values a ≡ verdict_on (on_study_days new_unit rs) last
+  pub ending : (a : Result OutcomeResult FileRefusal) → EndsFile s last a → file_values a ≡ verdict_on (on_study_days new_unit rs) last
   ending a w = w.answer ∙ inside ∙ verdict_taken

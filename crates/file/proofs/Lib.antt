@@ -1,4 +1,5 @@
 pub mod AtTheEdges
+pub mod ChunksAsParts
 pub mod EveryPartAnswered
 pub mod FileFollowsRecords
 mod Returns

@@ -3,41 +3,17 @@
 use mathlib.Core.Path.{◌≡◌, refl, sym, ◌∙◌, ap}
 use mathlib.Core.Bool.{Bool, true, false}
 use Prim.Native.Nat.{ℕ}
-use lib.Dec.{ltb}
+use Rattle.std.specs.Prelude.{Result, Ok, Err}
 use Rattle.laws.specs.Choice.{pick}
-use Rattle.dates.specs.declared.StudyDay.{StudyDay}
-use Rattle.outcome_rules.specs.declared.MaybeDay.{MaybeDay}
-use Rattle.outcome_rules.specs.declared.MaybeDay.TheVariants as M
-use Rattle.outcome_rules.specs.declared.DurationAnswer.{DurationAnswer}
-use Rattle.outcome_rules.specs.declared.DurationAnswer.TheVariants as D
-use Rattle.outcome_rules.specs.declared.DurationResult.{DurationResult}
-use Rattle.outcome_rules.specs.declared.PfsResult.{PfsResult}
 use Rattle.outcome_rules.specs.Values.{Outcome, day_value, pfs_values, duration_values}
 use Rattle.subject.specs.declared.Subject.{Subject}
 use Rattle.subject.specs.Range.{in_range}
-use Rattle.outcome.specs.declared.OutcomeAnswer.{OutcomeAnswer}
-use Rattle.outcome.specs.declared.OutcomeAnswer.TheVariants as R
 use Rattle.outcome.specs.declared.OutcomeResult.{OutcomeResult}
 use Rattle.outcome.specs.ReadingOutcome.{Reading, refused, outcome, outcome_values, pfs_held, duration_held, outcome_of, reading_of, ReadsOutcome}
-use Rattle.file.specs.declared.FileAnswer.{FileAnswer}
-use Rattle.file.specs.declared.FileAnswer.TheVariants as F
-use Rattle.file.specs.Verdict.{refused as stopped, accepted, is_after, starts_late, file_values}
+use Rattle.file.specs.Verdict.{refused as stopped, accepted, starts_late, file_values}
 use Rattle.file.specs.Ending.{verdict_held, EndsFile}
-
--- ---- 14
-
-pub after_on : (first : MaybeDay) (d : StudyDay) (p : PfsResult) → first ≡ M.On d → ltb p.day.0 d.0 ≡ is_after (day_value first) p.day.0
-after_on first d p q = rw q
-
-module _ (duration : DurationAnswer) (first : MaybeDay) (p : PfsResult) where
-  pub none_late : duration ≡ D.Absent → false ≡ starts_late (duration_values duration) (day_value first) (pfs_values p)
-  unfolding starts_late
-  none_late q = rw q
-
-  pub response_late : (d : DurationResult) (x : Bool) → duration ≡ D.ForDays d → x ≡ is_after (day_value first) (pfs_values p).day →
-      x ≡ starts_late (duration_values duration) (day_value first) (pfs_values p)
-  unfolding starts_late
-  response_late d x q e = rw q e
+use Rattle.outcome.specs.declared.OutOfRange.{OutOfRange}
+use Rattle.file.specs.declared.FileRefusal.{FileRefusal}
 
 -- ---- behind the last record
 
@@ -59,13 +35,13 @@ read_in_range s = go (in_range s)
     go false = refl
 
 module _ (s : Subject) (last : ℕ) where
-  pub ends_outside : (a : FileAnswer) (o : OutcomeAnswer) → ReadsOutcome s o → o ≡ R.OutOfRange → file_values a ≡ stopped 12 last → EndsFile s last a
+  pub ends_outside : (a : Result OutcomeResult FileRefusal) (o : Result OutcomeResult OutOfRange) (none : OutOfRange) → ReadsOutcome s o → o ≡ Err none → file_values a ≡ stopped 12 last → EndsFile s last a
   unfolding verdict_held
-  ends_outside a o w q e =
+  ends_outside a o none w q e =
       let outside : in_range s ≡ false = sym (read_in_range s) ∙ ap is_read (sym w.answer) ∙ rw q in
       record { answer = e ∙ rw outside }
 
-  module _ (o : OutcomeAnswer) (r : OutcomeResult) (w : ReadsOutcome s o) (q : o ≡ R.Read r) (x : Bool)
+  module _ (o : Result OutcomeResult OutOfRange) (r : OutcomeResult) (w : ReadsOutcome s o) (q : o ≡ Ok r) (x : Bool)
       (e : x ≡ starts_late (duration_values r.duration) (day_value s.followup.counting.firstresponse) (pfs_values r.pfs)) where
     inside : in_range s ≡ true
     inside = sym (read_in_range s) ∙ ap is_read (sym w.answer) ∙ rw q
@@ -81,10 +57,10 @@ module _ (s : Subject) (last : ℕ) where
     unfolding outcome_of
     late_held = e ∙ (λ i. starts_late (read_outcome i).duration (day_value s.followup.counting.firstresponse) (read_outcome i).pfs)
 
-    pub ends_late : (a : FileAnswer) → x ≡ true → file_values a ≡ stopped 14 last → EndsFile s last a
+    pub ends_late : (a : Result OutcomeResult FileRefusal) → x ≡ true → file_values a ≡ stopped 14 last → EndsFile s last a
     unfolding verdict_held
     ends_late a h f = record { answer = f ∙ rw (inside, ← late_held, h) }
 
-    pub ends_accepted : x ≡ false → EndsFile s last (F.Accepted r)
+    pub ends_accepted : x ≡ false → EndsFile s last (Ok r)
     unfolding verdict_held
     ends_accepted h = record { answer = rw (inside, ← late_held, h) (ap accepted read_outcome) }

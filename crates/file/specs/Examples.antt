@@ -1,7 +1,7 @@
 -- Document 01, "Where a call stops": 13 of an empty file, 14 of a response that starts before the day on which PFS ends, on it, and after it, proved in
 -- proofs/AtTheEdges.antt; and whole files, the printed example among them, proved in proofs/WorkedExamples.antt.
 -- Assumes nothing.
-use Rattle.std.specs.Prelude.{◌≡◌, true, false, List, [], ◌∷◌, ◌++◌, ℕ}
+use Rattle.std.specs.Prelude.{◌≡◌, true, false, List, [], ◌∷◌, ◌++◌, ℕ, None, Ok, Err, Result}
 use Rattle.dates.specs.Laws.{ymd}
 use Rattle.records.specs.declared.Record.{Record}
 use Rattle.records.specs.declared.Status.TheVariants as S
@@ -9,21 +9,19 @@ use Rattle.records.specs.Examples.{baseline_dated, visit_dated}
 use Rattle.codec.specs.Examples.{thirteen, printed_bytes, printed_visit_bytes, one_target_bytes, missing_bytes, therapy_bytes, death_bytes}
 use Rattle.records.specs.declared.OwnRefusal.TheVariants as W
 use Rattle.records.specs.Forms.{new_form}
-use Rattle.codec.specs.declared.ReadAnswer.{ReadAnswer}
-use Rattle.codec.specs.declared.ReadAnswer.TheVariants as R
+use Rattle.codec.specs.declared.ReadRefusal.{ReadRefusal}
+use Rattle.codec.specs.declared.ReadRefusal.TheVariants.{Own}
 use Rattle.codec.specs.declared.ReadResult.{ReadResult}
 use Rattle.codec.specs.Reading.{blank_record}
 use Rattle.response_rules.specs.Words.{PR, NE}
 use Rattle.outcome_rules.specs.Values.{on, EVENT, CENSORED, event, censored, no_duration, for_days, Outcome}
 use Rattle.outcome_rules.specs.declared.BestResponse.TheVariants as B
-use Rattle.outcome_rules.specs.declared.MaybeDay.TheVariants as M
 use Rattle.subject.specs.HeldExamples.{on_day, events, counts}
 use Rattle.subject.specs.Opening as O
 use Rattle.outcome.specs.Examples.{held_with, result, values}
 use Rattle.file.specs.Verdict.{refused, accepted, starts_late, verdict_from, verdict_of, file_values}
 use Rattle.file.specs.Ending.{verdict_held}
 use Rattle.file.specs.FileAsCalls.{never, at, first_number, first_stop}
-use Rattle.file.specs.declared.FileAnswer.TheVariants as F
 
 -- 13 length 0 (index 0)
 pub record EmptyFile : Type 0 where
@@ -46,11 +44,11 @@ pub record LateAtTheEdges : Type 0 where
   pub last : verdict_from new_form falling_days 4 [] ≡ refused 14 3
   -- and on the held subject, behind 12
   pub out_of_range : verdict_held O.blank_subject 3 ≡ refused 12 3
-  pub late_out_of_range : verdict_held (held_with true 0 false M.Absent (events M.Absent 50 (on_day 50)) (counts (on_day 90) M.Absent B.PR)) 3
+  pub late_out_of_range : verdict_held (held_with true 0 false None (events None 50 (on_day 50)) (counts (on_day 90) None B.PR)) 3
       ≡ refused 12 3
-  pub held_late : verdict_held (held_with true 120 false M.Absent (events M.Absent 50 (on_day 50)) (counts (on_day 90) M.Absent B.PR)) 3
+  pub held_late : verdict_held (held_with true 120 false None (events None 50 (on_day 50)) (counts (on_day 90) None B.PR)) 3
       ≡ refused 14 3
-  pub held_on_time : verdict_held (held_with true 120 false M.Absent (events M.Absent 120 (on_day 120)) (counts (on_day 90) M.Absent B.PR)) 3
+  pub held_on_time : verdict_held (held_with true 120 false None (events None 120 (on_day 120)) (counts (on_day 90) None B.PR)) 3
       ≡ accepted
       (record { pfs = censored 120; best = PR; duration = for_days CENSORED 31; pfs_settled = false; best_settled = false; duration_settled = false })
 
@@ -98,17 +96,17 @@ pub record WholeFiles : Type 0 where
   pub first_bad : verdict_of new_form (printed_bytes ++ (printed_bytes ++ thirteen [])) ≡ refused 8 1
 
 -- the number that reading gives, beside the blank record
-abbrev pub reading : ReadAnswer → ReadResult
+abbrev pub reading : Result (Unit {0}) ReadRefusal → ReadResult
 reading a = record { answer = a; found = blank_record }
 
 -- the first refusal of calls one by one
 pub record FirstOfCalls : Type 0 where
-  pub read_first : first_number (reading (R.Refused W.NoSuchDate)) 10 ≡ 3
-  pub then_added : first_number (reading R.Done) 10 ≡ 10
+  pub read_first : first_number (reading (Err (Own W.NoSuchDate))) 10 ≡ 3
+  pub then_added : first_number (reading (Ok tt)) 10 ≡ 10
   pub at_index2 : first_stop 0 (0 ∷ 0 ∷ 10 ∷ 9 ∷ []) ≡ at 10 2
   pub none : first_stop 0 (0 ∷ 0 ∷ []) ≡ never
 
 -- the values of the declared cases
 pub record ValuesOfCases : Type 0 where
-  pub refusal : file_values (F.Refused (record { number = 9; index = 10 })) ≡ refused 9 10
-  pub outcome : file_values (F.Accepted (result false true false)) ≡ accepted (values false true false)
+  pub refusal : file_values (Err (record { number = 9; index = 10 })) ≡ refused 9 10
+  pub outcome : file_values (Ok (result false true false)) ≡ accepted (values false true false)

@@ -3,7 +3,7 @@
 -- first refusal among 2 to 11 is the one that reading, opening or adding gives, at that index.
 -- Proved in proofs/FileAsCalls.antt.
 -- Assumes nothing.
-use Rattle.std.specs.Prelude.{◌≡◌, false, List, [], ◌∷◌, ◌++◌, map, ◌⊎◌, ℕ, suc, ◌-◌, ◌/◌, eqb, length}
+use Rattle.std.specs.Prelude.{◌≡◌, false, List, [], ◌∷◌, ◌++◌, map, ◌⊎◌, ℕ, suc, ◌-◌, ◌/◌, eqb, length, Result}
 use Rattle.laws.specs.Choice.{pick}
 use Rattle.laws.specs.Layout.{AreBytes}
 use Rattle.records.specs.Forms.{new_form, new_unit}
@@ -14,16 +14,17 @@ use Rattle.outcome_rules.specs.Values.{Outcome}
 use Rattle.outcome_rules.specs.StudyRecords.{on_study_days}
 use Rattle.outcome_rules.specs.VisitLines.{VisitLine, lines_in_order}
 use Rattle.subject.specs.declared.Subject.{Subject}
-use Rattle.subject.specs.declared.OpenAnswer.{OpenAnswer}
+use Rattle.subject.specs.declared.OpenRefusal.{OpenRefusal}
 use Rattle.subject.specs.Opening.{open_number, Opens}
-use Rattle.adding.specs.declared.AddAnswer.{AddAnswer}
+use Rattle.adding.specs.Refusals.{AddAnswer}
 use Rattle.adding.specs.Responses.{add_responses}
 use Rattle.adding.specs.Refusals.{add_number}
 use Rattle.adding.specs.Promises.{Adds}
-use Rattle.outcome.specs.declared.OutcomeAnswer.{OutcomeAnswer}
 use Rattle.outcome.specs.ReadingOutcome.{outcome, reading_values, ReadsOutcome}
 use Rattle.codec.specs.Parts.{bad_length, parts_of, Cuts}
 use Rattle.file.specs.Verdict.{refused, accepted, verdict_of}
+use Rattle.outcome.specs.declared.OutcomeResult.{OutcomeResult}
+use Rattle.outcome.specs.declared.OutOfRange.{OutOfRange}
 
 -- the number that reading gives, or, where that is 0, the number that opening or adding gives
 abbrev pub first_number : ReadResult → ℕ → ℕ
@@ -38,7 +39,7 @@ pub data AddsParts : Subject → List (List ℕ) → List ℕ → List VisitLine
 
 -- the first part is read and its record opens the subject
 pub data CallsOnParts : List (List ℕ) → List ℕ → List VisitLine → Subject → Type 0 where
-  opens : {s t : Subject} {part : List ℕ} {x : ReadResult} {a : OpenAnswer} {ps : List (List ℕ)} {ns : List ℕ} {ls : List VisitLine} →
+  opens : {s t : Subject} {part : List ℕ} {x : ReadResult} {a : Result (Unit {0}) OpenRefusal} {ps : List (List ℕ)} {ns : List ℕ} {ls : List VisitLine} →
       Reads part x → Opens x.found a s → AddsParts s ps ns ls t → CallsOnParts (part ∷ ps) (first_number x (open_number a) ∷ ns) ls t
 
 -- the first number other than 0 and its index, of numbers from index k on
@@ -56,7 +57,7 @@ pub record PartsCalled (ps : List (List ℕ)) : Type 0 where
   pub responses : List VisitLine
   pub left : Subject
   pub calls : CallsOnParts ps numbers responses left
-  pub reading : OutcomeAnswer
+  pub reading : Result OutcomeResult OutOfRange
   pub reads : ReadsOutcome left reading
 
 pub record FileAsCalls : Type 0 where
@@ -65,11 +66,11 @@ pub record FileAsCalls : Type 0 where
   -- and the calls have answers
   pub called : (s : List ℕ) → AreBytes s → bad_length new_form (length s) ≡ false → PartsCalled (parts_of new_form s)
   -- an accepted file: no call refuses, the outcome is the one read, and the lines of its visits are the responses answered
-  pub accepts : (s : List ℕ) {ns : List ℕ} {ls : List VisitLine} {t : Subject} {q : OutcomeAnswer} {o : Outcome} →
+  pub accepts : (s : List ℕ) {ns : List ℕ} {ls : List VisitLine} {t : Subject} {q : Result OutcomeResult OutOfRange} {o : Outcome} →
       verdict_of new_form s ≡ accepted o → CallsOnParts (parts_of new_form s) ns ls t → ReadsOutcome t q →
       (first_stop 0 ns ≡ never) × (reading_values q ≡ outcome o) × (lines_in_order (on_study_days new_unit (map (record_of_bytes new_form) (parts_of new_form s))) ≡ ls)
   pub refuses : (s : List ℕ) {ns : List ℕ} {ls : List VisitLine} {t : Subject} {n k : ℕ} →
       bad_length new_form (length s) ≡ false → CallsOnParts (parts_of new_form s) ns ls t → first_stop 0 ns ≡ at n k → verdict_of new_form s ≡ refused n k
   -- and where no call refuses, it is 14 with the index of the last record, or the outcome read
-  pub otherwise : (s : List ℕ) {ns : List ℕ} {ls : List VisitLine} {t : Subject} {q : OutcomeAnswer} →
+  pub otherwise : (s : List ℕ) {ns : List ℕ} {ls : List VisitLine} {t : Subject} {q : Result OutcomeResult OutOfRange} →
       bad_length new_form (length s) ≡ false → CallsOnParts (parts_of new_form s) ns ls t → first_stop 0 ns ≡ never → ReadsOutcome t q → (verdict_of new_form s ≡ refused 14 (length s / record_length - 1)) ⊎ ((o : Outcome) × (reading_values q ≡ outcome o) × (verdict_of new_form s ≡ accepted o))

@@ -1,7 +1,7 @@
 -- Document 01, "Change in size, file and listing" and "Where a call stops", 13 and 14: a file of records judged, by the definitions on lists, in either
 -- form of document 02, request 1.
 -- Assumes nothing.
-use Rattle.std.specs.Prelude.{◌≡◌, Bool, false, List, [], ◌∷◌, ◌++◌, reverse, ℕ, suc, ◌-◌, ltb, eqb, length}
+use Rattle.std.specs.Prelude.{◌≡◌, Bool, false, List, [], ◌∷◌, ◌++◌, reverse, ℕ, suc, ◌-◌, ltb, eqb, length, Result, Ok, Err}
 use Rattle.laws.specs.Choice.{both, pick}
 use Rattle.laws.specs.Refusals.{Refusal, ◌when◌, first}
 use Rattle.records.specs.Forms.{Form, new_form}
@@ -16,8 +16,8 @@ use Rattle.outcome_rules.specs.Duration.{first_response, duration}
 use Rattle.outcome_rules.specs.MarksExact.{outcome_in_order}
 use Rattle.outcome_rules.specs.Adding.{refusals_of_opening, refusals_of_adding}
 use Rattle.outcome.specs.ReadingOutcome.{outcome_values}
-use Rattle.file.specs.declared.FileAnswer.{FileAnswer}
-use Rattle.file.specs.declared.FileAnswer.TheVariants as F
+use Rattle.outcome.specs.declared.OutcomeResult.{OutcomeResult}
+use Rattle.file.specs.declared.FileRefusal.{FileRefusal}
 
 -- a refusal's number and the index of a record, or the outcome with its marks
 pub data Verdict : Type 0 where
@@ -67,9 +67,9 @@ module _ (form : Form) where
   verdict_of s = unless_refused (13 when bad_length form (length s) ∷ []) 0 (verdict_from [] 0 (parts_of form s))
 
 -- the declared cases
-abbrev pub file_values : FileAnswer → Verdict
-file_values (F.Refused r) = refused r.number r.index
-file_values (F.Accepted o) = accepted (outcome_values o)
+abbrev pub file_values : Result OutcomeResult FileRefusal → Verdict
+file_values (Err r) = refused r.number r.index
+file_values (Ok o) = accepted (outcome_values o)
 
-pub record JudgesFile (s : List ℕ) (a : FileAnswer) : Type 0 where
+pub record JudgesFile (s : List ℕ) (a : Result OutcomeResult FileRefusal) : Type 0 where
   pub answer : file_values a ≡ verdict_of new_form s

@@ -14,54 +14,37 @@ pub use ending::end_file;
 
 #[derive(Clone, Copy)]
 pub struct FileRefusal {
-    // The number in document 01.
+    // The number in document 01, which the line of a refusal prints: an enum of eleven cases would be turned back into it at once.
     pub number: u8,
     // The record that stops the file, from 0.
     pub index: usize,
 }
 
-#[derive(Clone, Copy)]
-pub enum FileAnswer {
-    Refused(FileRefusal),
-    Accepted(OutcomeResult),
-}
-
-pub(crate) fn refused(number: u8, index: usize) -> FileAnswer
+pub fn refused(number: u8, index: usize) -> Result<OutcomeResult, FileRefusal>
     ensures { file_values result ≡ stopped number index }
 {
-    FileAnswer::Refused(FileRefusal {
-        number: number,
-        index: index,
-    })
+    Err(FileRefusal { number, index })
 }
 
-pub fn judge_file(bytes: &[u8]) -> FileAnswer
+// The loops of listing and converter differ from this one in the page and in the calls: one loop for all would take three closures with a clause each.
+pub fn judge_file(bytes: &[u8]) -> Result<OutcomeResult, FileRefusal>
     ensures { JudgesFile bytes.now result }
 {
     if codec::bad_length(bytes.len()) {
         return refused(13, 0);
     }
     let first = subject::open_bytes(&bytes[0..RECORD_LENGTH]);
-    let opened = first.answer;
-    let unopened = subject::open_number(opened);
-    if unopened != 0 {
-        return refused(unopened, 0);
+    if first.answer.is_err() {
+        return refused(subject::open_number(first.answer), 0);
     }
-    let count = bytes.len() / RECORD_LENGTH;
     let mut subject = first.subject;
-    let mut k: usize = 1;
-    while k < count {
-        let from = k * RECORD_LENGTH;
-        let to = from + RECORD_LENGTH;
-        let addition = adding::add_bytes(subject, &bytes[from..to]);
-        let answer = addition.answer;
-        let number = adding::add_number(answer);
-        if number != 0 {
-            return refused(number, k);
+    let later = &bytes[RECORD_LENGTH..];
+    for (k, part) in later.chunks_exact(RECORD_LENGTH).enumerate() {
+        let addition = adding::add_bytes(subject, part);
+        if addition.answer.is_err() {
+            return refused(adding::add_number(addition.answer), k + 1);
         }
-        let next = addition.subject;
-        subject = next;
-        k += 1;
+        subject = addition.subject;
     }
-    end_file(subject, k - 1)
+    end_file(subject, later.len() / RECORD_LENGTH)
 }

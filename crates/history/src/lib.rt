@@ -1,13 +1,14 @@
 // A history, which is a byte string of records, on standard output: replayed as calls, judged as a file, and listed. The last reading, or the judged file, is answered too,
-// with its promise. Of each history: its name; behind A the numbers of the answers of opening and adding, 0 where done; the lines P, B, D and S of the last
+// with its promise, also where a print fails. Of each history: its name; behind A the numbers of the answers of opening and adding, 0 where done; the lines P, B, D and S of the last
 // reading, or R and its number; behind F what judging the file answers; then its listing. The programs `examples` and `refusals` print by it.
 #![tactic(auto)]
 
 ghost use Rattle.file.specs.Verdict.{JudgesFile};
 ghost use Rattle.history.specs.Replay.{records_in, Replayed};
 
-use file::FileAnswer;
-use outcome::OutcomeAnswer;
+use file::FileRefusal;
+use outcome::{OutOfRange, OutcomeResult};
+use std::io;
 
 mod print; // print.rt: answers on standard output
 mod replay; // replay.rt: the calls that a byte string makes
@@ -15,58 +16,54 @@ mod replay; // replay.rt: the calls that a byte string makes
 const LONG_LISTING: usize = 1000;
 
 // Of a long listing only how many bytes it has, its first line of 24 bytes, and the last one with the four of the outcome.
-fn print_listing(text: &[u8]) {
+fn print_listing(rt: &impl Print, text: &[u8]) -> io::Result<()> {
     if text.len() <= LONG_LISTING {
-        print::text(text);
-    } else {
-        let end = text.len();
-        let last = end - 71;
-        print::number(end as u64);
-        print::text(b"\n");
-        print::text(&text[0..24]);
-        print::text(&text[last..end]);
+        return rt.write_all(text);
     }
+    println!(rt; "{}", text.len())?;
+    rt.write_all(&text[..24])?;
+    rt.write_all(&text[text.len() - 71..])
 }
 
-fn listing(bytes: &[u8]) {
+fn listing(rt: &impl Print, bytes: &[u8]) -> io::Result<()> {
     let mut page = listing_text::blank_page();
     let n = listing::list(bytes, &mut page);
-    print_listing(&page[..n]);
+    print_listing(rt, &page[..n])
 }
 
-fn judged(bytes: &[u8]) -> FileAnswer
+fn judged(rt: &impl Print, bytes: &[u8]) -> Result<OutcomeResult, FileRefusal>
     ensures { JudgesFile bytes.now result }
 {
     let answer = file::judge_file(bytes);
-    print::judged(answer);
+    let _ = print::judged(rt, answer);
     answer
 }
 
-fn replayed(name: &[u8], bytes: &[u8]) -> OutcomeAnswer
+fn replayed(rt: &impl Print, name: &[u8], bytes: &[u8]) -> Result<OutcomeResult, OutOfRange>
     ensures { Replayed (records_in bytes.now) result }
 {
-    print::text(name);
-    let o = replay::replay(bytes);
-    print::outcome(o);
+    let _ = rt.write_all(name);
+    let o = replay::replay(rt, bytes);
+    let _ = print::outcome(rt, o);
     o
 }
 
 // The last reading of the replay.
-pub fn show_history(name: &[u8], bytes: &[u8]) -> OutcomeAnswer
+pub fn show_history(rt: &impl Print, name: &[u8], bytes: &[u8]) -> Result<OutcomeResult, OutOfRange>
     ensures { Replayed (records_in bytes.now) result }
 {
-    let o = replayed(name, bytes);
-    judged(bytes);
-    listing(bytes);
+    let o = replayed(rt, name, bytes);
+    let _ = judged(rt, bytes);
+    let _ = listing(rt, bytes);
     o
 }
 
 // As a file alone, for bytes that are no whole records.
-pub fn show_file(name: &[u8], bytes: &[u8]) -> FileAnswer
+pub fn show_file(rt: &impl Print, name: &[u8], bytes: &[u8]) -> Result<OutcomeResult, FileRefusal>
     ensures { JudgesFile bytes.now result }
 {
-    print::text(name);
-    let answer = judged(bytes);
-    listing(bytes);
+    let _ = rt.write_all(name);
+    let answer = judged(rt, bytes);
+    let _ = listing(rt, bytes);
     answer
 }

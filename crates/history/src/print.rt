@@ -1,124 +1,114 @@
 // Answers on standard output: their numbers, chosen by the names of their cases, and the outcome in the lines of the listing.
 use adding::AddAnswer;
-use file::{FileAnswer, FileRefusal};
-use outcome::{OutcomeAnswer, OutcomeResult};
-use outcome_rules::{BestResponse, DurationAnswer, PfsStatus};
-use subject::OpenAnswer;
+use file::FileRefusal;
+use outcome::{OutOfRange, OutcomeResult, SettledMarks};
+use outcome_rules::{BestResponse, DurationResult, PfsStatus};
+use std::{fmt, io};
+use subject::OpenRefusal;
 
-const STANDARD_OUTPUT: i32 = 1;
+#[derive(Drop)]
+struct Status(PfsStatus);
 
-pub(crate) fn text(line: &[u8]) {
-    io::write_all(STANDARD_OUTPUT, line);
-}
-
-pub(crate) fn number(n: u64) {
-    io::print_decimal(STANDARD_OUTPUT, n);
-}
-
-// Behind an A, which starts the numbers of a history.
-pub(crate) fn opened(answer: OpenAnswer) {
-    text(b"A ");
-    number(subject::open_number(answer) as u64);
-}
-
-// Behind a space.
-pub(crate) fn added(answer: AddAnswer) {
-    text(b" ");
-    number(adding::add_number(answer) as u64);
-}
-
-fn status(s: PfsStatus) {
-    match s {
-        PfsStatus::Event => text(b"EVENT "),
-        PfsStatus::Censored => text(b"CENSORED "),
+impl fmt::Display for Status {
+    fn fmt<W: fmt::Write>(&self, f: &mut fmt::Formatter<W>) -> fmt::Result {
+        f.write_str(match self.0 {
+            PfsStatus::Event => "EVENT",
+            PfsStatus::Censored => "CENSORED",
+        })
     }
 }
 
-fn best(b: BestResponse) {
-    match b {
-        BestResponse::CR => text(b"CR"),
-        BestResponse::PR => text(b"PR"),
-        BestResponse::SD => text(b"SD"),
-        BestResponse::PD => text(b"PD"),
-        BestResponse::NE => text(b"NE"),
+#[derive(Drop)]
+struct Best(BestResponse);
+
+impl fmt::Display for Best {
+    fn fmt<W: fmt::Write>(&self, f: &mut fmt::Formatter<W>) -> fmt::Result {
+        f.write_str(match self.0 {
+            BestResponse::CR => "CR",
+            BestResponse::PR => "PR",
+            BestResponse::SD => "SD",
+            BestResponse::PD => "PD",
+            BestResponse::NE => "NE",
+        })
     }
 }
 
-fn duration(d: DurationAnswer) {
-    match d {
-        DurationAnswer::Absent => text(b"none"),
-        DurationAnswer::ForDays(r) => {
-            let s = r.status;
-            status(s);
-            number(r.days);
+#[derive(Drop)]
+struct Duration(Option<DurationResult>);
+
+impl fmt::Display for Duration {
+    fn fmt<W: fmt::Write>(&self, f: &mut fmt::Formatter<W>) -> fmt::Result {
+        match self.0 {
+            None => f.write_str("none"),
+            Some(r) => write!(f, "{} {}", Status(r.status), r.days),
         }
     }
 }
 
-fn mark(m: bool) {
-    if m {
-        text(b" 1");
-    } else {
-        text(b" 0");
+// 1 for a part that is settled, else 0.
+#[derive(Drop)]
+struct Marks(SettledMarks);
+
+impl fmt::Display for Marks {
+    fn fmt<W: fmt::Write>(&self, f: &mut fmt::Formatter<W>) -> fmt::Result {
+        let settled = self.0;
+        write!(
+            f,
+            "{} {} {}",
+            u8::from(settled.pfs),
+            u8::from(settled.best),
+            u8::from(settled.duration)
+        )
     }
 }
 
-fn outcome_lines(o: OutcomeResult) {
-    let pfs = o.pfs;
-    let s = pfs.status;
-    let b = o.best;
-    let d = o.duration;
-    text(b"\nP ");
-    status(s);
-    number(pfs.day.0 as u64);
-    text(b"\nB ");
-    best(b);
-    text(b"\nD ");
-    duration(d);
-    text(b"\nS");
-    mark(o.settled.pfs);
-    mark(o.settled.best);
-    mark(o.settled.duration);
-    text(b"\n");
+// Behind an A, which starts the numbers of a history.
+pub(crate) fn opened(rt: &impl Print, answer: Result<(), OpenRefusal>) -> io::Result<()> {
+    print!(rt; "A {}", subject::open_number(answer))
 }
 
-pub(crate) fn outcome(o: OutcomeAnswer) {
-    match o {
-        OutcomeAnswer::OutOfRange => text(b"\nR 12\n"),
-        OutcomeAnswer::Read(r) => outcome_lines(r),
+// Behind a space.
+pub(crate) fn added(rt: &impl Print, answer: AddAnswer) -> io::Result<()> {
+    print!(rt; " {}", adding::add_number(answer))
+}
+
+fn outcome_lines(rt: &impl Print, o: OutcomeResult) -> io::Result<()> {
+    println!(rt; "P {} {}", Status(o.pfs.status), o.pfs.day.0)?;
+    println!(rt; "B {}", Best(o.best))?;
+    println!(rt; "D {}", Duration(o.duration))?;
+    println!(rt; "S {}", Marks(o.settled))
+}
+
+// Below the line of numbers, which it ends.
+pub(crate) fn outcome(
+    rt: &impl Print,
+    reading: Result<OutcomeResult, OutOfRange>,
+) -> io::Result<()> {
+    println!(rt)?;
+    match reading {
+        Ok(o) => outcome_lines(rt, o),
+        Err(OutOfRange) => println!(rt; "R 12"),
     }
 }
 
 // The outcome of a file on one line.
-fn accepted(o: OutcomeResult) {
-    let pfs = o.pfs;
-    let s = pfs.status;
-    let b = o.best;
-    let d = o.duration;
-    text(b"F ");
-    status(s);
-    number(pfs.day.0 as u64);
-    text(b" ");
-    best(b);
-    text(b" ");
-    duration(d);
-    mark(o.settled.pfs);
-    mark(o.settled.best);
-    mark(o.settled.duration);
-    text(b"\n");
+fn accepted(rt: &impl Print, o: OutcomeResult) -> io::Result<()> {
+    println!(rt;
+        "F {} {} {} {} {}",
+        Status(o.pfs.status),
+        o.pfs.day.0,
+        Best(o.best),
+        Duration(o.duration),
+        Marks(o.settled)
+    )
 }
 
-fn refused(r: FileRefusal) {
-    text(b"F R ");
-    number(r.number as u64);
-    text(b" ");
-    number(r.index as u64);
-    text(b"\n");
-}
-
-pub(crate) fn judged(answer: FileAnswer) {
+pub(crate) fn judged(
+    rt: &impl Print,
+    answer: Result<OutcomeResult, FileRefusal>,
+) -> io::Result<()> {
     match answer {
-        FileAnswer::Refused(r) => refused(r),
-        FileAnswer::Accepted(o) => accepted(o),
+        Ok(o) => accepted(rt, o),
+        Err(r) => println!(rt; "F R {} {}", r.number, r.index),
     }
 }

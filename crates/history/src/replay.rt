@@ -7,7 +7,7 @@ ghost use Rattle.records.specs.Forms.{new_form};
 
 use super::print;
 use codec::RECORD_LENGTH;
-use outcome::OutcomeAnswer;
+use outcome::{OutOfRange, OutcomeResult};
 use records::Record;
 
 // The record in a part's bytes; the blank one, which opening and adding refuse by 3, where reading refuses them.
@@ -18,28 +18,20 @@ fn record_in(part: &[u8]) -> Record
     result.found
 }
 
-pub(crate) fn replay(bytes: &[u8]) -> OutcomeAnswer
+pub(crate) fn replay(rt: &impl Print, bytes: &[u8]) -> Result<OutcomeResult, OutOfRange>
     ensures { Replayed (records_in bytes.now) result }
 {
-    let count = bytes.len() / RECORD_LENGTH;
-    if count == 0 {
-        return OutcomeAnswer::OutOfRange;
+    if bytes.len() < RECORD_LENGTH {
+        return Err(OutOfRange);
     }
-    let opened = subject::open_subject(record_in(&bytes[0..RECORD_LENGTH]));
-    let first = opened.answer;
-    print::opened(first);
+    let opened = subject::open_subject(record_in(&bytes[..RECORD_LENGTH]));
+    let _ = print::opened(rt, opened.answer);
     let mut subject = opened.subject;
-    let mut k: usize = 1;
-    while k < count {
-        let from = k * RECORD_LENGTH;
-        let to = from + RECORD_LENGTH;
-        k += 1;
-        let addition = adding::added(subject, record_in(&bytes[from..to]));
-        let answer = addition.answer;
-        print::added(answer);
-        let next = addition.subject;
-        let _between = outcome::read_outcome(next);
-        subject = next;
+    for part in bytes[RECORD_LENGTH..].chunks_exact(RECORD_LENGTH) {
+        let addition = adding::added(subject, record_in(part));
+        let _ = print::added(rt, addition.answer);
+        subject = addition.subject;
+        let _between = outcome::read_outcome(subject);
     }
     outcome::read_outcome(subject)
 }

@@ -8,10 +8,19 @@ ghost use Rattle.input.specs.Received.{Received};
 
 use std::io::Read;
 
+// Why reading ended.
+#[derive(Clone, Copy, Debug, PartialEq, Eq)]
+pub enum End {
+    // A read failed.
+    Failed,
+    EndOfInput,
+    // There are more bytes than a file may have.
+    PastLongest,
+}
+
 #[derive(Clone, Copy)]
 pub struct Input {
-    // Why reading ended: below 0 where a read failed, 0 at the end of input, 1 past the longest file.
-    pub end: isize,
+    pub end: End,
     // How many bytes were read.
     pub count: usize,
 }
@@ -28,32 +37,31 @@ fn read_into<R: Read>(reader: &mut R, bytes: &mut [u8]) -> Input
     requires { length bytes.old ≡ 65536 }
     ensures { Received bytes.old result bytes.new }
 {
-    let mut space = io::buffer();
-    let chunk: &mut [u8] = &mut space;
+    let mut chunk = [0; 4096];
     let mut count: usize = 0;
-    // One byte more than a file may have is enough to refuse it.
+    // One byte more than a file may have is enough to refuse it. A `while`, since it counts bytes and not turns.
     while count <= codec::MOST_BYTES {
-        let n = match reader.read(chunk) {
+        let n = match reader.read(&mut chunk) {
             Ok(n) => n,
             Err(_) => {
                 return Input {
-                    end: -1,
-                    count: count,
+                    end: End::Failed,
+                    count,
                 };
             }
         };
         if n == 0 {
             return Input {
-                end: 0,
-                count: count,
+                end: End::EndOfInput,
+                count,
             };
         }
-        store(chunk, n, bytes, count);
+        store(&chunk, n, bytes, count);
         count += n;
     }
     Input {
-        end: 1,
-        count: count,
+        end: End::PastLongest,
+        count,
     }
 }
 
@@ -94,12 +102,12 @@ mod tests {
     #[test]
     fn a_failed_read_is_no_end_of_input(rt: HostRuntime) {
         for (left, fails, end, count) in [
-            (0, true, -1, 0),
-            (0, false, 0, 0),
-            (2, true, -1, 8192),
-            (2, false, 0, 8192),
-            (12, true, -1, 49152),
-            (13, true, 1, 53248),
+            (0, true, End::Failed, 0),
+            (0, false, End::EndOfInput, 0),
+            (2, true, End::Failed, 8192),
+            (2, false, End::EndOfInput, 8192),
+            (12, true, End::Failed, 49152),
+            (13, true, End::PastLongest, 53248),
         ] {
             let mut bytes = [0; 65536];
             let read = read_input(&mut Chunks { left, fails }, &mut bytes);

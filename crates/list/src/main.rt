@@ -2,24 +2,33 @@
 // that fails is no end of input, so that a file that was cut off is never listed as a whole one.
 #![tactic(auto)]
 
-const STANDARD_OUTPUT: i32 = 1;
+use anyhow::{Result, ensure};
+use input::End;
 
-const STANDARD_ERROR: i32 = 2;
-
-fn print_listing(bytes: &[u8]) {
+fn print_listing(rt: &impl Print, bytes: &[u8]) -> Result<()> {
     let mut page = listing_text::blank_page();
     let n = listing::list(bytes, &mut page);
-    if !io::write_all(STANDARD_OUTPUT, &page[..n]) {
-        io::write_all(STANDARD_ERROR, b"list: standard output cannot be written\n");
-    }
+    ensure!(
+        rt.write_all(&page[..n]).is_ok(),
+        "list: standard output cannot be written"
+    );
+    Ok(())
 }
 
-fn main(rt: HostRuntime) {
-    let mut bytes = io::large_buffer();
+// `convert` has the same two calls with other messages.
+fn list_input(rt: &HostRuntime) -> Result<()> {
+    let mut bytes = [0; 65536];
     let read = input::read_input(&mut rt.stdin(), &mut bytes);
-    if read.end < 0 {
-        io::write_all(STANDARD_ERROR, b"list: standard input cannot be read\n");
-        return;
+    ensure!(
+        read.end != End::Failed,
+        "list: standard input cannot be read"
+    );
+    print_listing(rt, &bytes[..read.count])
+}
+
+// An error changes no exit status.
+fn main(rt: HostRuntime) {
+    if let Err(error) = list_input(&rt) {
+        let _ = rt.eprintln(error);
     }
-    print_listing(&bytes[..read.count]);
 }

@@ -1,6 +1,5 @@
 pub mod TextsWritten
 pub mod DigitsStored
-pub mod WritableCases
 pub mod ResponsesWritable
 pub mod TurnsOfLoop
 pub mod PageAfterListing

@@ -7,11 +7,10 @@ use native.Mathlib.Nat.{zero-add}
 use native.Mathlib.Omega.{arith}
 use lib.ListN.{length, length-append, take, drop, take-append-drop}
 use lib.Seq.{take-length, length-take-le, drop-append_seam, sets-eq}
+use Rattle.std.specs.Prelude.{Result, Ok, Err}
 use Rattle.outcome.specs.ReadingOutcome.{outcome, outcome_values}
 use Rattle.outcome.specs.Laws.{ReadingWithin}
 use Rattle.outcome.specs.declared.OutcomeResult.{OutcomeResult}
-use Rattle.file.specs.declared.FileAnswer.{FileAnswer}
-use Rattle.file.specs.declared.FileAnswer.TheVariants as F
 use Rattle.file.specs.declared.FileRefusal.{FileRefusal}
 use Rattle.file.specs.Verdict.{refused, accepted, verdict_of, file_values}
 use Rattle.listing_text.specs.Text.{outcome_text, refusal_text, listing_of, longest_listing, page_of}
@@ -32,11 +31,11 @@ from_start page text left n h w =
     (w.place ∙ z, w.stored ∙ sets-eq text page 0 (rw z h) ∙ ap (λ (k : ℕ). text ++ drop k page) z)
 
 -- what is needed where a file is refused or accepted
-pub small_index : (a : FileAnswer) (r : FileRefusal) → a ≡ F.Refused r → SmallIndex (file_values a) → r.index < 100000
+pub small_index : (a : Result OutcomeResult FileRefusal) (r : FileRefusal) → a ≡ Err r → SmallIndex (file_values a) → r.index < 100000
 small_index a r q h = rw q at h
 
-module _ (s page : List ℕ) (a : FileAnswer) (m : ℕ) (page₁ : List ℕ) (w : JudgesInto s page a m page₁) (size : length page ≡ longest_listing) where
-  pub reading_within : (o : OutcomeResult) → a ≡ F.Accepted o → ReadingWithin (outcome (outcome_values o))
+module _ (s page : List ℕ) (a : Result OutcomeResult FileRefusal) (m : ℕ) (page₁ : List ℕ) (w : JudgesInto s page a m page₁) (size : length page ≡ longest_listing) where
+  pub reading_within : (o : OutcomeResult) → a ≡ Ok o → ReadingWithin (outcome (outcome_values o))
   reading_within o q = (w.lines (outcome_values o) (sym w.answer ∙ rw q)).0
 
   -- the bytes that were there, copied over the text that was written, restore the page
@@ -47,7 +46,7 @@ module _ (s page : List ℕ) (a : FileAnswer) (m : ℕ) (page₁ : List ℕ) (w 
       (λ i. drop (done.0 i) (done.1 i)) ∙ drop-append_seam w.text (drop (length w.text) page) ∙ ap (λ (k : ℕ). drop k page) (sym done.0) in
       e ∙ ap (λ (t : List ℕ). take m page ++ t) rest ∙ take-append-drop m page
 
-  pub lists_refused : (page₂ left : List ℕ) (n : ℕ) (r : FileRefusal) → a ≡ F.Refused r → page₂ ≡ take m page ++ drop m page₁ →
+  pub lists_refused : (page₂ left : List ℕ) (n : ℕ) (r : FileRefusal) → a ≡ Err r → page₂ ≡ take m page ++ drop m page₁ →
       Wrote page₂ 0 (refusal_text r.number r.index) n left → ListsFile s page n left
   unfolding listing_of page_of
   lists_refused page₂ left n r q e v =
@@ -58,7 +57,7 @@ module _ (s page : List ℕ) (a : FileAnswer) (m : ℕ) (page₁ : List ℕ) (w 
       let done = from_start page (listing_of new_form s) left n (omega (arith, lengths.listing s, size)) (as_text text again) in
       record { count = done.0; whole = done.1 }
 
-  pub lists_accepted : (left : List ℕ) (n : ℕ) (o : OutcomeResult) → a ≡ F.Accepted o → Wrote page₁ m (outcome_text (outcome_values o)) n left → ListsFile s page n left
+  pub lists_accepted : (left : List ℕ) (n : ℕ) (o : OutcomeResult) → a ≡ Ok o → Wrote page₁ m (outcome_text (outcome_values o)) n left → ListsFile s page n left
   unfolding listing_of page_of
   lists_accepted left n o q v =
       let verdict : verdict_of new_form s ≡ accepted (outcome_values o) = sym w.answer ∙ rw q in

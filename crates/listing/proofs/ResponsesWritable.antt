@@ -6,6 +6,7 @@ use Prim.Native.Nat.{ℕ, ◌≤◌, ◌<◌}
 use native.Mathlib.Omega.{arith}
 use borrow.Author.Tests.{eqb-true}
 use lib.ListN.{length}
+use Rattle.std.specs.Prelude.{Ok, Err, Some, None}
 use Rattle.dates.specs.declared.Date.{Date}
 use Rattle.laws.specs.Refusals.{first}
 use Rattle.records.specs.declared.Entry.{Entry}
@@ -21,8 +22,7 @@ use Rattle.outcome_rules.specs.VisitLines.{lines_of_record}
 use Rattle.outcome_rules.specs.Adding.{refusals_of_study_record, refusals_of_adding}
 use Rattle.outcome_rules.proofs.RefusalsOfAdding.{one_more, own_passed}
 use Rattle.subject.specs.declared.Subject.{Subject}
-use Rattle.adding.specs.declared.AddAnswer.{AddAnswer}
-use Rattle.adding.specs.declared.AddAnswer.TheVariants as A
+use Rattle.adding.specs.Refusals.{AddAnswer}
 use Rattle.adding.specs.Responses.{response_values, add_responses}
 use Rattle.adding.specs.Refusals.{add_number}
 use Rattle.adding.specs.Promises.{Adds}
@@ -42,16 +42,9 @@ day_small randomisation (E.Death d) marks sizes = let h = study_day_most randomi
 
 -- a record has one line or none
 pub short_responses : (a : AddAnswer) → AllShort (add_responses a) → AllWritable (add_responses a) × (length (lines_text (add_responses a)) ≤ 24)
-short_responses A.Done h = (tt, omega arith)
-short_responses (A.Judged v) h = ((record { day = h.0.day; change = h.0.change }, tt), subst (λ (t : List ℕ). length t ≤ 24) (sym (append-nil (visit_text (response_values v)))) h.0.whole)
-short_responses A.WrongLength h = (tt, omega arith)
-short_responses A.NoSuchKind h = (tt, omega arith)
-short_responses A.SecondBaseline h = (tt, omega arith)
-short_responses A.AfterDeath h = (tt, omega arith)
-short_responses A.TooEarly h = (tt, omega arith)
-short_responses A.Misfit h = (tt, omega arith)
-short_responses A.OutOfRange h = (tt, omega arith)
-short_responses (A.Refused own) h = (tt, omega arith)
+short_responses (Ok None) h = (tt, omega arith)
+short_responses (Ok (Some v)) h = ((record { day = h.0.day; change = h.0.change }, tt), subst (λ (t : List ℕ). length t ≤ 24) (sym (append-nil (visit_text (response_values v)))) h.0.whole)
+short_responses (Err refusal) h = (tt, omega arith)
 
 -- the responses that an addition answers are short
 module _ {rs : List Record} {s t : Subject} {a : AddAnswer} (h : Taken rs s) (r : Record) (five : Five r) (w : Adds s r a t) (z : add_number a ≡ 0) where

@@ -7,10 +7,11 @@ ghost use Rattle.listing_text.specs.Text.{longest_listing};
 ghost use Rattle.listing.specs.Writing.{JudgesInto, ListsFile};
 
 use codec::RECORD_LENGTH;
-use file::{FileAnswer, FileRefusal};
+use file::FileRefusal;
 use listing_text::PAGE_LENGTH;
+use outcome::OutcomeResult;
 
-mod page; // page.rt: bytes and numbers into a page
+mod page; // page.rt: texts and numbers into a page
 mod words; // words.rt: the words of answers into a page
 mod visits; // visits.rt: the line of a visit
 mod outcomes; // outcomes.rt: the lines of the outcome, and the line of a refusal
@@ -18,7 +19,7 @@ mod outcomes; // outcomes.rt: the lines of the outcome, and the line of a refusa
 // A file judged, and how many bytes the lines written so far take.
 #[derive(Clone, Copy)]
 struct JudgedLines {
-    answer: FileAnswer,
+    answer: Result<OutcomeResult, FileRefusal>,
     length: usize,
 }
 
@@ -26,14 +27,12 @@ fn stopped(number: u8, index: usize, length: usize) -> JudgedLines
     ensures { (file_values result.answer ≡ refused number index) × (result.length ≡ length) }
 {
     JudgedLines {
-        answer: FileAnswer::Refused(FileRefusal {
-            number: number,
-            index: index,
-        }),
-        length: length,
+        answer: file::refused(number, index),
+        length,
     }
 }
 
+// A loop of its own beside `file::judge_file`, for the page; file/src/lib.rt says why.
 fn judge_into(bytes: &[u8], page: &mut [u8]) -> JudgedLines
     requires { length page.old ≡ longest_listing }
     ensures { JudgesInto bytes.now page.old result.answer result.length page.new }
@@ -42,32 +41,22 @@ fn judge_into(bytes: &[u8], page: &mut [u8]) -> JudgedLines
         return stopped(13, 0, 0);
     }
     let first = subject::open_bytes(&bytes[0..RECORD_LENGTH]);
-    let opened = first.answer;
-    let unopened = subject::open_number(opened);
-    if unopened != 0 {
-        return stopped(unopened, 0, 0);
+    if first.answer.is_err() {
+        return stopped(subject::open_number(first.answer), 0, 0);
     }
-    let count = bytes.len() / RECORD_LENGTH;
     let mut subject = first.subject;
     let mut at: usize = 0;
-    let mut k: usize = 1;
-    while k < count {
-        let from = k * RECORD_LENGTH;
-        let to = from + RECORD_LENGTH;
-        let addition = adding::add_bytes(subject, &bytes[from..to]);
-        let responses = addition.answer;
-        let number = adding::add_number(responses);
-        if number != 0 {
-            return stopped(number, k, at);
+    let later = &bytes[RECORD_LENGTH..];
+    for (k, part) in later.chunks_exact(RECORD_LENGTH).enumerate() {
+        let addition = adding::add_bytes(subject, part);
+        if addition.answer.is_err() {
+            return stopped(adding::add_number(addition.answer), k + 1, at);
         }
-        let next = addition.subject;
-        subject = next;
-        at = visits::put_lines(page, at, responses);
-        k += 1;
+        subject = addition.subject;
+        at = visits::put_lines(page, at, addition.answer);
     }
-    let answer = file::end_file(subject, k - 1);
     JudgedLines {
-        answer: answer,
+        answer: file::end_file(subject, later.len() / RECORD_LENGTH),
         length: at,
     }
 }
@@ -85,12 +74,11 @@ pub fn list(bytes: &[u8], page: &mut [u8; PAGE_LENGTH]) -> usize
 {
     let before = *page;
     let judged = judge_into(bytes, page);
-    let answer = judged.answer;
-    match answer {
-        FileAnswer::Refused(refusal) => {
+    match judged.answer {
+        Ok(outcome) => outcomes::put_outcome(page, judged.length, outcome),
+        Err(refusal) => {
             copy(&before, page, judged.length);
             outcomes::put_refusal(page, refusal)
         }
-        FileAnswer::Accepted(outcome) => outcomes::put_outcome(page, judged.length, outcome),
     }
 }

@@ -7,8 +7,10 @@ use Prim.Native.Nat.{ℕ, ◌+◌, ◌-◌}
 use native.Mathlib.Omega.{arith}
 use lib.Dec.{leb, eqb}
 use borrow.Author.Tests.{eq-eqb, ne_eqb, eqb-true}
+use Rattle.std.specs.Prelude.{Result, Option, Some, None}
 use Rattle.laws.specs.Choice.{pick}
 use Rattle.laws.specs.Refusals.{◌when◌, first}
+use Rattle.dates.specs.declared.StudyDay.{StudyDay}
 use Rattle.records.specs.declared.Entry.{Entry}
 use Rattle.records.specs.declared.Entry.TheVariants as E
 use Rattle.records.specs.declared.Record.{Record}
@@ -18,8 +20,6 @@ use Rattle.records.specs.Forms.{new_form, new_unit}
 use Rattle.codec.specs.Reading.{refusals_of_bytes, refusal_of_bytes, record_of_bytes}
 use Rattle.codec.proofs.NoRefusalOfBytes.{after_reading, found_fine}
 use Rattle.response_rules.specs.Words.{Word}
-use Rattle.outcome_rules.specs.declared.MaybeDay.{MaybeDay}
-use Rattle.outcome_rules.specs.declared.MaybeDay.TheVariants as M
 use Rattle.outcome_rules.specs.Values.{or_day1, Pfs, no_duration, for_days, event, censored, day_value}
 use Rattle.outcome_rules.specs.Pfs.{two_visits_missed, early_death_limit, pfs_of}
 use Rattle.outcome_rules.specs.BestResponse.{is_response}
@@ -31,13 +31,14 @@ use Rattle.subject.specs.Range.{in_range}
 use Rattle.subject.specs.Laws.{Within, AbsentOrWithin, SubjectWithin}
 use Rattle.subject.proofs.RangeLaws.{subject_within, in_range_lem}
 use Rattle.subject.proofs.OpeningInRange.{blank_outside, opening_within}
-use Rattle.adding.specs.declared.AddAnswer.{AddAnswer}
+use Rattle.adding.specs.Refusals.{AddAnswer}
 use Rattle.adding.specs.Responses.{add_responses}
 use Rattle.adding.specs.Refusals.{add_number}
 use Rattle.adding.specs.Promises.{refusals_of_record_held, added_held, Answered, refusal_of_adding_held, Adds, refusal_of_adding_bytes_held, AddsBytes}
 use Rattle.adding.proofs.SubjectKeptInRange.{adding_within}
-use Rattle.subject.specs.declared.OpenAnswer.{OpenAnswer}
-use Rattle.outcome.specs.declared.OutcomeAnswer.{OutcomeAnswer}
+use Rattle.subject.specs.declared.OpenRefusal.{OpenRefusal}
+use Rattle.outcome.specs.declared.OutOfRange.{OutOfRange}
+use Rattle.outcome.specs.declared.OutcomeResult.{OutcomeResult}
 use Rattle.outcome.specs.ReadingOutcome.{refused, outcome, reading_values, pfs_held, best_held, outcome_of, reading_of, ReadsOutcome}
 use Rattle.outcome.specs.Laws.{DurationWithin, ReadingWithin, CallsInRange}
 
@@ -58,7 +59,7 @@ opened_within r e =
     let parts = (none_after_own new_unit r _).0 e in
     rw (eq-eqb (refusal_of_opening new_unit r) 0 e) (first_within r.entry r.marks r.sizes (passes new_unit r false false parts.0) parts.1)
 
-pub opened_in_range : {r : Record} {a : OpenAnswer} {s : Subject} → Opens r a s → open_number a ≡ 0 → in_range s ≡ true
+pub opened_in_range : {r : Record} {a : Result (Unit {0}) OpenRefusal} {s : Subject} → Opens r a s → open_number a ≡ 0 → in_range s ≡ true
 opened_in_range {r} {a} {s} w z = rw w.made (in_range_lem (opened_subject r) (opened_within r (sym w.answer ∙ z)))
 
 -- ---- adding
@@ -81,32 +82,32 @@ added_in_range {s} {t} {r} w h = rw w.left (go (eqb (refusal_of_adding_held s r)
 
 -- ---- reading
 
-or_day_1_within : (m : MaybeDay) → AbsentOrWithin m → Within (or_day1 (day_value m))
-or_day_1_within M.Absent w = (omega arith, omega arith)
-or_day_1_within (M.On d) w = w
+or_day_1_within : (m : Option StudyDay) → AbsentOrWithin m → Within (or_day1 (day_value m))
+or_day_1_within None w = (omega arith, omega arith)
+or_day_1_within (Some d) w = w
 
-pfs_within : (g t : MaybeDay) (v : ℕ) (e : MaybeDay) → AbsentOrWithin g → AbsentOrWithin t → AbsentOrWithin e →
+pfs_within : (g t : Option StudyDay) (v : ℕ) (e : Option StudyDay) → AbsentOrWithin g → AbsentOrWithin t → AbsentOrWithin e →
     Within (pfs_of (day_value g) (day_value t) v (day_value e)).day
-pfs_within (M.On d) t v e wg wt we = go (two_visits_missed d.0 v)
+pfs_within (Some d) t v e wg wt we = go (two_visits_missed d.0 v)
   where
     go : (x : Bool) → Within (pick x (censored (or_day1 (day_value e))) (event d.0)).day
     go true = or_day_1_within e we
     go false = wg
-pfs_within M.Absent (M.On d) v M.Absent wg wt we = go (leb (d.0 - 1) early_death_limit)
+pfs_within None (Some d) v None wg wt we = go (leb (d.0 - 1) early_death_limit)
   where
     go : (x : Bool) → Within (pick x (event d.0) (censored 1)).day
     go true = wt
     go false = (omega arith, omega arith)
-pfs_within M.Absent (M.On d) v (M.On e) wg wt we = go (two_visits_missed d.0 v)
+pfs_within None (Some d) v (Some e) wg wt we = go (two_visits_missed d.0 v)
   where
     go : (x : Bool) → Within (pick x (censored e.0) (event d.0)).day
     go true = we
     go false = wt
-pfs_within M.Absent M.Absent v e wg wt we = or_day_1_within e we
+pfs_within None None v e wg wt we = or_day_1_within e we
 
-duration_within : (best : Word) (f : MaybeDay) (p : Pfs) → AbsentOrWithin f → Within p.day → DurationWithin (duration_of best (day_value f) p)
-duration_within best M.Absent p wf wp = tt
-duration_within best (M.On d) p wf wp = go (is_response best)
+duration_within : (best : Word) (f : Option StudyDay) (p : Pfs) → AbsentOrWithin f → Within p.day → DurationWithin (duration_of best (day_value f) p)
+duration_within best None p wf wp = tt
+duration_within best (Some d) p wf wp = go (is_response best)
   where
     go : (x : Bool) → DurationWithin (pick x (for_days p.status (p.day - d.0 + 1)) no_duration)
     go true = (omega arith, omega (arith, wf, wp))
@@ -171,7 +172,7 @@ added_outside : {s t : Subject} {r : Record} {a : AddAnswer} → Adds s r a t �
 unfolding refusal_of_adding_held
 added_outside w h = w.answer ∙ rw h
 
-read_outside : {s : Subject} {o : OutcomeAnswer} → ReadsOutcome s o → in_range s ≡ false → reading_values o ≡ refused 12
+read_outside : {s : Subject} {o : Result OutcomeResult OutOfRange} → ReadsOutcome s o → in_range s ≡ false → reading_values o ≡ refused 12
 unfolding reading_of
 read_outside w h = w.answer ∙ rw h
 

@@ -6,6 +6,7 @@ use mathlib.Core.List.{List, [], ◌∷◌, ◌++◌, map, map-append, reverse, 
 use Prim.Native.Nat.{ℕ}
 use native.Mathlib.Omega.{arith}
 use lib.Dec.{eqb}
+use Rattle.std.specs.Prelude.{Result}
 use Rattle.laws.specs.Choice.{pick}
 use Rattle.laws.specs.Refusals.{◌when◌, first}
 use Rattle.laws.proofs.FirstRefusal.{among, each_append}
@@ -27,14 +28,15 @@ use Rattle.outcome_rules.proofs.RecordsAccepted.{accepted_lawful, accepted_exact
 use Rattle.subject.specs.declared.Subject.{Subject}
 use Rattle.subject.specs.Opening.{open_number, subject_of_entry, opened_subject, Opens}
 use Rattle.subject.specs.Range.{in_range}
-use Rattle.adding.specs.declared.AddAnswer.{AddAnswer}
+use Rattle.adding.specs.Refusals.{AddAnswer}
 use Rattle.adding.specs.Responses.{add_responses}
 use Rattle.adding.specs.Refusals.{add_number}
 use Rattle.adding.specs.Promises.{responses_by, subject_by, refusal_of_adding_held, Adds}
 use Rattle.subject.specs.Summary.{summary}
 use Rattle.subject.proofs.HeldAfterBaseline.{baseline_of, opening_follows}
-use Rattle.subject.specs.declared.OpenAnswer.{OpenAnswer}
-use Rattle.outcome.specs.declared.OutcomeAnswer.{OutcomeAnswer}
+use Rattle.subject.specs.declared.OpenRefusal.{OpenRefusal}
+use Rattle.outcome.specs.declared.OutOfRange.{OutOfRange}
+use Rattle.outcome.specs.declared.OutcomeResult.{OutcomeResult}
 use Rattle.outcome.specs.ReadingOutcome.{Reading, outcome, reading_values, outcome_of, ReadsOutcome}
 use Rattle.outcome.specs.Demand3.{Reply, added, outcome_read, Calls, none, adds, reads, outcome_on, replies_after, Without12, ReportsOn, Claim, Holds, Demand3}
 use Rattle.outcome.specs.HeldAfter.{Summarises, HeldAfterCalls}
@@ -117,7 +119,7 @@ module _ (x : BaselineEntry) (marks : List Bool) (sizes : List ℕ) where
 
   -- ---- reading
 
-  pub reading : (rs : List Record) {s : Subject} {o : OutcomeAnswer} → Held rs s → ReadsOutcome s o → reading_values o ≡ outcome_on (on_study_days new_unit (opened_with ∷ rs))
+  pub reading : (rs : List Record) {s : Subject} {o : Result OutcomeResult OutOfRange} → Held rs s → ReadsOutcome s o → reading_values o ≡ outcome_on (on_study_days new_unit (opened_with ∷ rs))
   reading rs {s} h w = w.answer ∙ reading_in_range s h.inside ∙ ap outcome (ap outcome_of h.same ∙ outcome_held x.date base (past rs))
 
   -- ---- a list of calls
@@ -167,7 +169,7 @@ module _ (x : BaselineEntry) (marks : List Bool) (sizes : List ℕ) where
 
   -- ---- the claim
 
-  claim : (ss : List Record) {t : Subject} {o : OutcomeAnswer} → Held ss t → ReadsOutcome t o → MarksExactOn (on_study_days new_unit (opened_with ∷ ss)) → Claim o (opened_with ∷ ss)
+  claim : (ss : List Record) {t : Subject} {o : Result OutcomeResult OutOfRange} → Held ss t → ReadsOutcome t o → MarksExactOn (on_study_days new_unit (opened_with ∷ ss)) → Claim o (opened_with ∷ ss)
   claim ss h w exact =
       subst (λ (y : Reading). ReportsOn y (on_study_days new_unit (opened_with ∷ ss))) (sym (reading ss h w))
       (record {
@@ -179,7 +181,7 @@ module _ (x : BaselineEntry) (marks : List Bool) (sizes : List ℕ) where
         duration_mark = exact.duration;
       })
 
-  holds_from : {s t : Subject} {cs : List Call} {ys : List Reply} {o : OutcomeAnswer} → Five opened_with → refusal_of_opening new_unit opened_with ≡ 0 → Held [] s → Calls s cs ys t →
+  holds_from : {s t : Subject} {cs : List Call} {ys : List Reply} {o : Result OutcomeResult OutOfRange} → Five opened_with → refusal_of_opening new_unit opened_with ≡ 0 → Held [] s → Calls s cs ys t →
       ReadsOutcome t o → Holds opened_with cs ys o
   holds_from {cs = cs} {o = o} five accepts h c w =
       let all = after [] h c in
@@ -192,7 +194,7 @@ module _ (x : BaselineEntry) (marks : List Bool) (sizes : List ℕ) where
       }
 
 -- what an accepted opening made
-module _ {a : OpenAnswer} {s t : Subject} {cs : List Call} {ys : List Reply} (z : open_number a ≡ 0) (c : Calls s cs ys t) where
+module _ {a : Result (Unit {0}) OpenRefusal} {s t : Subject} {cs : List Call} {ys : List Reply} (z : open_number a ≡ 0) (c : Calls s cs ys t) where
   module _ (x : BaselineEntry) (marks : List Bool) (sizes : List ℕ) (w : Opens (opened_with x marks sizes) a s) where
     accepts : refusal_of_opening new_unit (opened_with x marks sizes) ≡ 0
     accepts = sym w.answer ∙ z
@@ -217,7 +219,7 @@ module _ {a : OpenAnswer} {s t : Subject} {cs : List Call} {ys : List Reply} (z 
       go (E.Therapy d) w n = absurd (let f : ⊥ = omega arith in f)
       go (E.Death d) w n = absurd (let f : ⊥ = omega arith in f)
 
-  from_opening : {o : OutcomeAnswer} → ReadsOutcome t o → (r : Record) → Opens r a s → Holds r cs ys o
+  from_opening : {o : Result OutcomeResult OutOfRange} → ReadsOutcome t o → (r : Record) → Opens r a s → Holds r cs ys o
   from_opening {o} q =
       from_baseline (λ (r : Record). Holds r cs ys o)
       (λ x marks sizes w. holds_from x marks sizes w.five (accepts x marks sizes w) (opening_held x marks sizes w) c q)

@@ -7,6 +7,8 @@ use Prim.Native.Nat.{ℕ, zero, suc}
 use lib.Dec.{ltb, eqb}
 use lib.ListN.{get_or}
 use borrow.Author.Tests.{eqb-true, eqb-false}
+use Rattle.std.specs.Prelude.{Ok, Err, None, Some as Given}
+use Rattle.std.specs.Prelude as P
 use Rattle.laws.specs.Choice.{both, either}
 use Rattle.laws.specs.Refusals.{◌when◌}
 use Rattle.laws.proofs.SomeCase.{Some, pick_some}
@@ -22,7 +24,7 @@ use Rattle.records.proofs.NoOwnRefusal.{each_own}
 use Rattle.records.specs.Forms.{new_unit}
 use Rattle.response_rules.specs.declared.TargetAnswer.TheVariants as T
 use Rattle.response_rules.specs.declared.OverallAnswer.TheVariants as O
-use Rattle.response_rules.specs.declared.ChangeAnswer.TheVariants as C
+use Rattle.response_rules.specs.declared.Change.TheVariants as C
 use Rattle.response_rules.specs.Words.{Word, CR, PR, SD, NE, target_word, status_word, overall_word}
 use Rattle.response_rules.specs.SumOfDiameters.{sum_of_diameters, all_measured}
 use Rattle.response_rules.specs.TargetAnswer.{all_disappeared, progression_from_nadir, partial_response, target_answer}
@@ -37,8 +39,8 @@ use Rattle.subject.specs.declared.Enrolment.{Enrolment}
 use Rattle.subject.specs.declared.FollowUp.{FollowUp}
 use Rattle.subject.specs.declared.Subject.{Subject}
 use Rattle.subject.specs.Range.{in_range}
-use Rattle.adding.specs.declared.AddAnswer.{AddAnswer}
-use Rattle.adding.specs.declared.AddAnswer.TheVariants as A
+use Rattle.adding.specs.Refusals.{AddAnswer}
+use Rattle.adding.specs.declared.AddRefusal.TheVariants as A
 use Rattle.adding.specs.OneRecordMore.{overall_held}
 use Rattle.adding.specs.Responses.{response_values, add_responses, line_held, lines_held}
 use Rattle.adding.specs.Refusals.{add_number}
@@ -106,12 +108,12 @@ some_change : (b : BaselineDisease) (v : Visit) → Some change_values (change_o
 unfolding change_of change_between
 some_change b v =
     let sum = sum_of_diameters v.measured v.sizes in
-    pick_some change_values (either (eqb b.count 0) (either (not (all_measured b.count v.measured)) (eqb b.baselinesum 0))) _ _ (C.Absent, refl)
+    pick_some change_values (either (eqb b.count 0) (either (not (all_measured b.count v.measured)) (eqb b.baselinesum 0))) _ _ (P.None, refl)
     (go (rounded_change b.baselinesum sum) (both (ltb sum b.baselinesum) (ltb 0 (rounded_change b.baselinesum sum))))
   where
     go : (n : ℕ) (x : Bool) → Some change_values (signed x n)
-    go n true = (C.Decrease n, refl)
-    go n false = (C.Increase n, refl)
+    go n true = (P.Some (C.Decrease n), refl)
+    go n false = (P.Some (C.Increase n), refl)
 
 some_responses : (e : Enrolment) (f : FollowUp) (day : StudyDay) (v : VisitEntry) (measured : List Bool) (sizes : List ℕ) →
     Some response_values (line_held e f day v measured sizes)
@@ -126,41 +128,36 @@ some_responses e f day v measured sizes =
 
 -- ---- a refusal
 
-some_refusal : (s : Subject) (r : Record) → Some add_number (refusal_of_adding_held s r)
+abbrev number : AddAnswer → ℕ
+number = add_number
+
+some_refusal : (s : Subject) (r : Record) → Some number (refusal_of_adding_held s r)
 unfolding refusal_of_adding_held
 some_refusal s r =
-    let own = each_own new_unit (Some add_number) (A.Refused N.NoSuchDate, refl) (A.Refused N.OutsideLimits, refl) (A.Refused N.NotZero, refl) r false false in
-    let behind = each_on (Some add_number) (A.SecondBaseline, refl) (A.AfterDeath, refl) (A.TooEarly, refl) (A.Misfit, refl) s.enrolment s.followup (study_day_held s r)
+    let own = each_own new_unit (Some number) (Err (A.Own N.NoSuchDate), refl) (Err (A.Own N.OutsideLimits), refl) (Err (A.Own N.NotZero), refl) r false false in
+    let behind = each_on (Some number) (Err A.SecondBaseline, refl) (Err A.AfterDeath, refl) (Err A.TooEarly, refl) (Err A.Misfit, refl) s.enrolment s.followup (study_day_held s r)
     r.entry r.marks in
-    among (Some add_number) (12 when not (in_range s) ∷ refusals_of_record new_unit r ++ refusals_of_record_held s r) (A.Done, refl)
-    ((A.OutOfRange, refl), each_append (Some add_number) (refusals_of_record new_unit r) (refusals_of_record_held s r) own behind)
+    among (Some number) (12 when not (in_range s) ∷ refusals_of_record new_unit r ++ refusals_of_record_held s r) (Ok None, refl)
+    ((Err A.OutOfRange, refl), each_append (Some number) (refusals_of_record new_unit r) (refusals_of_record_held s r) own behind)
 
 -- ---- an answer
 
 -- the lines of a record, from an answer that says 'done'
 some_done : (e : Enrolment) (f : FollowUp) (day : StudyDay) (r : Entry) (marks : List Bool) (sizes : List ℕ) →
     (a : AddAnswer) × (add_number a ≡ 0) × (add_responses a ≡ lines_held e f day r marks sizes)
-some_done e f day (E.Baseline b) marks sizes = (A.Done, refl, refl)
+some_done e f day (E.Baseline b) marks sizes = (Ok None, refl, refl)
 some_done e f day (E.Visit v) marks sizes =
     let some = some_responses e f day v marks sizes in
-    (A.Judged some.0, refl, ap (λ (l : VisitLine). l ∷ []) some.1)
-some_done e f day (E.Therapy d) marks sizes = (A.Done, refl, refl)
-some_done e f day (E.Death d) marks sizes = (A.Done, refl, refl)
+    (Ok (Given some.0), refl, ap (λ (l : VisitLine). l ∷ []) some.1)
+some_done e f day (E.Therapy d) marks sizes = (Ok None, refl, refl)
+some_done e f day (E.Death d) marks sizes = (Ok None, refl, refl)
 
 -- a refusal has no responses
 none_beside : (a : AddAnswer) → eqb (add_number a) 0 ≡ false → add_responses a ≡ []
-none_beside A.Done h = refl
-none_beside (A.Judged v) h = absurd (eqb-false 0 0 h refl)
-none_beside A.WrongLength h = refl
-none_beside A.NoSuchKind h = refl
-none_beside A.SecondBaseline h = refl
-none_beside A.AfterDeath h = refl
-none_beside A.TooEarly h = refl
-none_beside A.Misfit h = refl
-none_beside A.OutOfRange h = refl
-none_beside (A.Refused own) h = refl
+none_beside (Ok x) h = absurd (eqb-false 0 0 h refl)
+none_beside (Err refusal) h = refl
 
-pub some_answer : (s : Subject) (r : Record) (n : ℕ) → Some add_number n → (a : AddAnswer) × (add_number a ≡ n) × (add_responses a ≡ responses_by s r n)
+pub some_answer : (s : Subject) (r : Record) (n : ℕ) → Some number n → (a : AddAnswer) × (add_number a ≡ n) × (add_responses a ≡ responses_by s r n)
 some_answer s r n some = go (eqb n 0) refl
   where
     go : (x : Bool) → eqb n 0 ≡ x → (a : AddAnswer) × (add_number a ≡ n) × (add_responses a ≡ responses_by s r n)

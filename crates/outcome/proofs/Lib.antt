@@ -3,5 +3,4 @@ pub mod CallsInRange
 pub mod EveryAdditionAnswered
 pub mod EveryCallAnswered
 pub mod Demand3
-mod Returns
 pub mod WorkedExamples

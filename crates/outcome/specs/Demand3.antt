@@ -1,6 +1,6 @@
 -- Document 01, "Settled", demand 3, and "Contracts" c: one claim about a whole list of calls on one subject. Proved in proofs/Demand3.antt.
 -- Assumes nothing.
-use Rattle.std.specs.Prelude.{◌≡◌, true, List, [], ◌∷◌, ◌↔◌, ℕ}
+use Rattle.std.specs.Prelude.{◌≡◌, true, List, [], ◌∷◌, ◌↔◌, ℕ, Result}
 use Rattle.records.specs.declared.Record.{Record}
 use Rattle.records.specs.Entries.{Five}
 use Rattle.records.specs.Forms.{new_unit}
@@ -12,12 +12,13 @@ use Rattle.outcome_rules.specs.VisitLines.{VisitLine}
 use Rattle.outcome_rules.specs.Adding.{refusal_of_adding, responses_of_adding, Call, add, read, accepted_after, accepted}
 use Rattle.subject.specs.declared.Subject.{Subject}
 use Rattle.subject.specs.Opening.{open_number, Opens}
-use Rattle.adding.specs.declared.AddAnswer.{AddAnswer}
+use Rattle.adding.specs.Refusals.{AddAnswer}
 use Rattle.adding.specs.Responses.{add_responses}
 use Rattle.adding.specs.Refusals.{add_number}
 use Rattle.adding.specs.Promises.{Adds}
-use Rattle.subject.specs.declared.OpenAnswer.{OpenAnswer}
-use Rattle.outcome.specs.declared.OutcomeAnswer.{OutcomeAnswer}
+use Rattle.subject.specs.declared.OpenRefusal.{OpenRefusal}
+use Rattle.outcome.specs.declared.OutOfRange.{OutOfRange}
+use Rattle.outcome.specs.declared.OutcomeResult.{OutcomeResult}
 use Rattle.outcome.specs.ReadingOutcome.{Reading, refused, outcome, reading_values, ReadsOutcome}
 
 -- what a call replies, in the paper's numbers and values: an addition 0 where it is done or the refusal's number, with the responses at a visit that was
@@ -32,7 +33,7 @@ pub data Calls : Subject → List Call → List Reply → Subject → Type 0 whe
   none : {s : Subject} → Calls s [] [] s
   adds : {s t u : Subject} {r : Record} {a : AddAnswer} {cs : List Call} {ys : List Reply} →
       Adds s r a t → Calls t cs ys u → Calls s (add r ∷ cs) (added (add_number a) (add_responses a) ∷ ys) u
-  reads : {s u : Subject} {o : OutcomeAnswer} {cs : List Call} {ys : List Reply} →
+  reads : {s u : Subject} {o : Result OutcomeResult OutOfRange} {cs : List Call} {ys : List Reply} →
       ReadsOutcome s o → Calls s cs ys u → Calls s (read ∷ cs) (outcome_read (reading_values o) ∷ ys) u
 
 -- the paper's outcome of a list of records in the order recorded; every list of accepted records opens with a baseline, and for any other the value is a
@@ -73,12 +74,12 @@ ReportsOn (refused n) rs = ⊥
 ReportsOn (outcome reported) rs = from_baseline ⊥ (Reports reported) rs
 
 -- of a reading's answer and the records accepted, baseline first
-abbrev pub Claim : OutcomeAnswer → List Record → Type 0
+abbrev pub Claim : Result OutcomeResult OutOfRange → List Record → Type 0
 Claim o rs = ReportsOn (reading_values o) (on_study_days new_unit rs)
 
 -- of a baseline opened with, the calls, their replies and the answer of a reading after the last of them: each call replied as the paper has it, 12 met none,
 -- the records accepted are a lawful list, and the reading reports the outcome of that list
-pub record Holds (b : Record) (cs : List Call) (ys : List Reply) (o : OutcomeAnswer) : Type 0 where
+pub record Holds (b : Record) (cs : List Call) (ys : List Reply) (o : Result OutcomeResult OutOfRange) : Type 0 where
   pub replied : ys ≡ replies b cs
   pub without12 : Without12 ys
   pub lawfully : lawful (on_study_days new_unit (accepted new_unit b cs)) ≡ true
@@ -92,9 +93,9 @@ pub record Runs (s : Subject) (cs : List Call) : Type 0 where
 
 -- demand 3, from the subject that an accepted opening made: any list of calls, and a reading after the last of them
 pub record Demand3 : Type 0 where
-  pub holds : {b : Record} {a : OpenAnswer} {s t : Subject} {cs : List Call} {ys : List Reply} {o : OutcomeAnswer} →
+  pub holds : {b : Record} {a : Result (Unit {0}) OpenRefusal} {s t : Subject} {cs : List Call} {ys : List Reply} {o : Result OutcomeResult OutOfRange} →
       Opens b a s → open_number a ≡ 0 → Calls s cs ys t → ReadsOutcome t o → Holds b cs ys o
   -- every opening has an answer; from any subject, and so from one that was opened, every list of calls runs, and a reading after it has an answer
-  pub opening_exists : (b : Record) → Five b → (a : OpenAnswer) × (s : Subject) × Opens b a s
+  pub opening_exists : (b : Record) → Five b → (a : Result (Unit {0}) OpenRefusal) × (s : Subject) × Opens b a s
   pub calls_exist : (s : Subject) (cs : List Call) → Runs s cs
-  pub reading_exists : (s : Subject) → (o : OutcomeAnswer) × ReadsOutcome s o
+  pub reading_exists : (s : Subject) → (o : Result OutcomeResult OutOfRange) × ReadsOutcome s o

@@ -1,17 +1,15 @@
 -- Document 01, "Where a call stops", 12 before 3 to 5 before 8 to 11, and "Outcome" and "Settled" read from a held subject; the replies of a list of
 -- calls, and the values of the declared cases. Proved in proofs/WorkedExamples.antt.
 -- Assumes nothing.
-use Rattle.std.specs.Prelude.{◌≡◌, Bool, true, false, List, [], ◌∷◌, ℕ}
+use Rattle.std.specs.Prelude.{◌≡◌, Bool, true, false, List, [], ◌∷◌, ℕ, Option, Some, None, Ok, Err}
 use Rattle.dates.specs.Laws.{ymd}
+use Rattle.dates.specs.declared.StudyDay.{StudyDay}
 use Rattle.records.specs.Examples.{visit_dated, therapy_dated}
 use Rattle.records.specs.declared.Record.{Record}
 use Rattle.records.specs.declared.Status.TheVariants as S
 use Rattle.response_rules.specs.Words.{Word, CR, PR, SD, PD, NE, NN}
 use Rattle.response_rules.specs.Change.{Tenths, signed}
 use Rattle.outcome_rules.specs.declared.BestResponse.TheVariants as B
-use Rattle.outcome_rules.specs.declared.DurationAnswer.TheVariants as D
-use Rattle.outcome_rules.specs.declared.MaybeDay.{MaybeDay}
-use Rattle.outcome_rules.specs.declared.MaybeDay.TheVariants as M
 use Rattle.outcome_rules.specs.declared.PfsStatus.TheVariants as E
 use Rattle.outcome_rules.specs.Values.{Pfs, Duration, Outcome, CENSORED, EVENT, event, censored, no_duration, for_days}
 use Rattle.outcome_rules.specs.VisitLines.{VisitLine}
@@ -26,7 +24,6 @@ use Rattle.adding.specs.Promises.{subject_by, refusal_of_adding_held}
 use Rattle.adding.specs.Examples.{after_therapy50, after_death50}
 use Rattle.outcome.specs.ReadingOutcome.{Reading, refused, outcome, reading_values, reading_of}
 use Rattle.outcome.specs.Demand3.{added, outcome_read, replies}
-use Rattle.outcome.specs.declared.OutcomeAnswer.TheVariants as A
 use Rattle.outcome.specs.declared.OutcomeResult.{OutcomeResult}
 
 abbrev pub after : Subject → Record → Subject
@@ -48,7 +45,7 @@ pub record FirstRefusals : Type 0 where
   pub read_out_of_range : reading_of blank_subject ≡ refused 12
 
 -- a baseline with non-target disease alone, or a missing one, by latest day, therapy, death, and what visits left
-abbrev pub held_with : Bool → ℕ → Bool → MaybeDay → EventDays → CountingVisits → Subject
+abbrev pub held_with : Bool → ℕ → Bool → Option StudyDay → EventDays → CountingVisits → Subject
 held_with assessed = subject_with (ymd 2020 1 1) assessed (disease assessed 0 0) 0
 
 -- PFS, best response, duration, and the marks of the three
@@ -64,32 +61,32 @@ pub record ReadAtTheEdges : Type 0 where
   pub after_therapy : reading_of after_therapy50 ≡ reads (censored 43) SD no_duration false true true
   pub after_death : reading_of after_death50 ≡ reads (event 50) SD no_duration true true true
   -- PR 43, PR 85, therapy 90: S 0 1 0
-  pub responded : reading_of (held_with true 90 true M.Absent (events M.Absent 85 (on_day 85)) (counts (on_day 43) M.Absent B.PR))
+  pub responded : reading_of (held_with true 90 true None (events None 85 (on_day 85)) (counts (on_day 43) None B.PR))
       ≡ reads (censored 85) PR (for_days CENSORED 43) false true false
   -- SD 127: nothing is settled, though it is later than day 93
-  pub late : reading_of (held_with true 127 false M.Absent (events M.Absent 127 (on_day 127)) (counts M.Absent M.Absent B.SD))
+  pub late : reading_of (held_with true 127 false None (events None 127 (on_day 127)) (counts None None B.SD))
       ≡ reads (censored 127) SD no_duration false false false
   -- CR 43, CR 71: S 0 1 0
-  pub complete : reading_of (held_with true 71 false M.Absent (events M.Absent 71 (on_day 71)) (counts (on_day 43) (on_day 43) B.CR))
+  pub complete : reading_of (held_with true 71 false None (events None 71 (on_day 71)) (counts (on_day 43) (on_day 43) B.CR))
       ≡ reads (censored 71) CR (for_days CENSORED 29) false true false
   -- PD 30: best is PD
-  pub progressed : reading_of (held_with true 30 false M.Absent (events (on_day 30) 1 M.Absent) (counts M.Absent M.Absent B.PD))
+  pub progressed : reading_of (held_with true 30 false None (events (on_day 30) 1 None) (counts None None B.PD))
       ≡ reads (event 30) PD no_duration true true true
   -- PR 43, PR 85, PD 127 as in the printed example, P EVENT 127, B PR, D EVENT 85, S 1 1 1, and a death of day 130 behind them
   pub printed : reading_of
-      (held_with true 130 false (on_day 130) (events (on_day 127) 85 (on_day 85)) (counts (on_day 43) M.Absent B.PR))
+      (held_with true 130 false (on_day 130) (events (on_day 127) 85 (on_day 85)) (counts (on_day 43) None B.PR))
       ≡ reads (event 127) PR (for_days EVENT 85) true true true
   -- baseline missing: alone; a visit of day 43 and death 50; a therapy of day 92, and one of day 93
-  pub missing_alone : reading_of (held_with false 1 false M.Absent no_events no_counts)
+  pub missing_alone : reading_of (held_with false 1 false None no_events no_counts)
       ≡ reads (censored 1) NE no_duration false true true
-  pub missing_death : reading_of (held_with false 50 false (on_day 50) (events M.Absent 43 M.Absent) no_counts)
+  pub missing_death : reading_of (held_with false 50 false (on_day 50) (events None 43 None) no_counts)
       ≡ reads (event 50) NE no_duration true true true
-  pub missing92 : reading_of (held_with false 92 true M.Absent no_events no_counts)
+  pub missing92 : reading_of (held_with false 92 true None no_events no_counts)
       ≡ reads (censored 1) NE no_duration false true true
-  pub missing93 : reading_of (held_with false 93 true M.Absent no_events no_counts)
+  pub missing93 : reading_of (held_with false 93 true None no_events no_counts)
       ≡ reads (censored 1) NE no_duration true true true
   -- NE 43 and death 120, after the early-death limit
-  pub late_death : reading_of (held_with true 120 false (on_day 120) (events M.Absent 43 M.Absent) no_counts)
+  pub late_death : reading_of (held_with true 120 false (on_day 120) (events None 43 None) no_counts)
       ≡ reads (censored 1) NE no_duration true true true
 
 -- a visit of 2020 with a target and a node, both measured, and non-target disease gone
@@ -129,7 +126,7 @@ result pfs best duration =
     record {
       pfs = record { status = E.Censored; day = day 85 };
       best = B.PR;
-      duration = D.ForDays (record { status = E.Censored; days = 43 });
+      duration = Some (record { status = E.Censored; days = 43 });
       settled = record { pfs = pfs; best = best; duration = duration };
     }
 
@@ -139,7 +136,7 @@ values pfs best duration =
 
 -- 12, or PFS, best response and duration with the mark of each
 pub record ValuesOfCases : Type 0 where
-  pub out_of_range : reading_values A.OutOfRange ≡ refused 12
-  pub pfs_settled : reading_values (A.Read (result true false false)) ≡ outcome (values true false false)
-  pub best_settled : reading_values (A.Read (result false true false)) ≡ outcome (values false true false)
-  pub duration_settled : reading_values (A.Read (result false false true)) ≡ outcome (values false false true)
+  pub out_of_range : reading_values (Err (record {})) ≡ refused 12
+  pub pfs_settled : reading_values (Ok (result true false false)) ≡ outcome (values true false false)
+  pub best_settled : reading_values (Ok (result false true false)) ≡ outcome (values false true false)
+  pub duration_settled : reading_values (Ok (result false false true)) ≡ outcome (values false false true)

@@ -1,6 +1,6 @@
 -- Document 01, "Contracts" a and "Where a call stops", 12: what reading the outcome promises, for every subject.
 -- Assumes nothing.
-use Rattle.std.specs.Prelude.{◌≡◌, Bool, ℕ}
+use Rattle.std.specs.Prelude.{◌≡◌, Bool, ℕ, Result, Ok, Err}
 use Rattle.laws.specs.Choice.{pick}
 use Rattle.response_rules.specs.Words.{Word}
 use Rattle.outcome_rules.specs.Values.{is_recorded, Pfs, Duration, Outcome, day_value, pfs_values, best_word, duration_values}
@@ -10,8 +10,7 @@ use Rattle.outcome_rules.specs.Settled.{pfs_settled_by, best_settled_by, duratio
 use Rattle.subject.specs.declared.Subject.{Subject}
 use Rattle.subject.specs.Range.{in_range}
 use Rattle.outcome.specs.declared.OutcomeResult.{OutcomeResult}
-use Rattle.outcome.specs.declared.OutcomeAnswer.{OutcomeAnswer}
-use Rattle.outcome.specs.declared.OutcomeAnswer.TheVariants as A
+use Rattle.outcome.specs.declared.OutOfRange.{OutOfRange}
 
 -- a refusal's number, or the outcome
 pub data Reading : Type 0 where
@@ -29,9 +28,9 @@ outcome_values o =
       duration_settled = o.settled.duration;
     }
 
-abbrev pub reading_values : OutcomeAnswer → Reading
-reading_values A.OutOfRange = refused 12
-reading_values (A.Read o) = outcome (outcome_values o)
+abbrev pub reading_values : Result OutcomeResult OutOfRange → Reading
+reading_values (Err e) = refused 12
+reading_values (Ok o) = outcome (outcome_values o)
 
 -- the parts and the marks from what is held
 abbrev pub pfs_held : Subject → Pfs
@@ -70,5 +69,5 @@ outcome_of s =
 unfoldable pub reading_of : Subject → Reading
 reading_of s = pick (in_range s) (outcome (outcome_of s)) (refused 12)
 
-pub record ReadsOutcome (s : Subject) (o : OutcomeAnswer) : Type 0 where
+pub record ReadsOutcome (s : Subject) (o : Result OutcomeResult OutOfRange) : Type 0 where
   pub answer : reading_values o ≡ reading_of s

@@ -2,7 +2,7 @@
 // list of additions and readings, is proved here.
 #![tactic(auto)]
 
-use outcome_rules::{BestResponse, DurationAnswer, PfsResult};
+use outcome_rules::{BestResponse, DurationResult, PfsResult};
 
 mod settled; // settled.rt: the settled marks
 mod reading; // reading.rt: the outcome of a held subject
@@ -21,12 +21,10 @@ pub struct SettledMarks {
 pub struct OutcomeResult {
     pub pfs: PfsResult,
     pub best: BestResponse,
-    pub duration: DurationAnswer,
+    pub duration: Option<DurationResult>,
     pub settled: SettledMarks,
 }
 
+// Refusal 12.
 #[derive(Clone, Copy)]
-pub enum OutcomeAnswer {
-    OutOfRange,
-    Read(OutcomeResult),
-}
+pub struct OutOfRange;

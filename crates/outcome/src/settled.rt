@@ -5,12 +5,13 @@ ghost use Rattle.outcome_rules.specs.BestResponse.{is_cr};
 ghost use Rattle.outcome_rules.specs.Settled.{pfs_settled_by, best_settled_by, duration_settled_by};
 
 use dates::StudyDay;
-use outcome_rules::{BestResponse, DurationAnswer};
+use outcome_rules::{BestResponse, DurationResult};
 use outcome_values::EARLY_DEATH_LIMIT;
 
 // From this day on no death is an early one.
 const SETTLED_FROM: u32 = EARLY_DEATH_LIMIT + 2;
 
+#[tactic(auto, unfolding(outcome_rules::specs::Settled::pfs_settled_by, outcome_rules::specs::Settled::settled_from, outcome_rules::specs::Pfs::early_death_limit))]
 pub(crate) fn pfs_settled(assessed: bool, progressed: bool, dead: bool, latest: StudyDay) -> bool
     ensures { result ≡ pfs_settled_by assessed progressed dead latest.0 }
 {
@@ -23,15 +24,10 @@ pub(crate) fn pfs_settled(assessed: bool, progressed: bool, dead: bool, latest: 
 fn is_cr(best: BestResponse) -> bool
     ensures { result ≡ is_cr (best_word best) }
 {
-    match best {
-        BestResponse::CR => true,
-        BestResponse::PR => false,
-        BestResponse::SD => false,
-        BestResponse::PD => false,
-        BestResponse::NE => false,
-    }
+    matches!(best, BestResponse::CR)
 }
 
+#[tactic(auto, unfolding(outcome_rules::specs::Settled::best_settled_by))]
 pub(crate) fn best_settled(
     progressed: bool,
     therapy: bool,
@@ -44,11 +40,12 @@ pub(crate) fn best_settled(
     progressed | (therapy | (dead | (!assessed | is_cr(best))))
 }
 
-pub(crate) fn duration_settled(duration: DurationAnswer, pfs: bool, best: bool) -> bool
+#[tactic(auto, unfolding(outcome_rules::specs::Settled::duration_settled_by))]
+pub(crate) fn duration_settled(duration: Option<DurationResult>, pfs: bool, best: bool) -> bool
     ensures { result ≡ duration_settled_by (duration_values duration) pfs best }
 {
     match duration {
-        DurationAnswer::Absent => best,
-        DurationAnswer::ForDays(_) => pfs,
+        None => best,
+        Some(_) => pfs,
     }
 }

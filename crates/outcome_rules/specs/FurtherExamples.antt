@@ -1,7 +1,7 @@
 -- Document 01, "Examples at the edges", 7 and 11, the outcome of the printed example, cases in which one sentence of "Outcome" or "Settled" applies and a
 -- similar one does not, the course of small lists, and the words of the declared cases; proved in proofs/AtTheEdges.antt.
 -- Assumes nothing.
-use Rattle.std.specs.Prelude.{◌≡◌, Bool, true, false, List, [], ◌∷◌, map, reverse, ℕ}
+use Rattle.std.specs.Prelude.{◌≡◌, Bool, true, false, List, [], ◌∷◌, map, reverse, ℕ, Some, None}
 use Rattle.records.specs.declared.Status.TheVariants as S
 use Rattle.records.specs.Examples.{filled}
 use Rattle.records.specs.Forms.{new_unit}
@@ -14,19 +14,17 @@ use Rattle.outcome_rules.specs.LawfulLists.{Past, latest_day}
 use Rattle.outcome_rules.specs.Course.{Judged, judged_values, judged_visit, therapy_on, death_on, Course, course, latest_day_in, therapy_recorded}
 use Rattle.outcome_rules.specs.VisitLines.{lines_in_order}
 use Rattle.outcome_rules.specs.StarredExamples.{with_targets, one_target, with_node, no_targets, missing, visit_on, measuring, unmeasured, ExampleAnswer, target, is, pfs_is, best_is, duration_is, target_of, target_pd, target_cr, pfs_of_list, best_of_list, duration_of_list, pfs_settled_of_list, best_settled_of_list, duration_settled_of_list, Example, example}
-use Rattle.outcome_rules.specs.declared.MaybeDay.TheVariants as M
 use Rattle.outcome_rules.specs.declared.PfsStatus.TheVariants as E
 use Rattle.outcome_rules.specs.declared.BestResponse.TheVariants as B
-use Rattle.outcome_rules.specs.declared.DurationAnswer.TheVariants as D
 
 -- the words and values of the declared cases
 pub record WordsOfCases : Type 0 where
-  pub days : map day_value (M.Absent ∷ M.On (record { 0 = 43 }) ∷ []) ≡ none ∷ on 43 ∷ []
+  pub days : map day_value (None ∷ Some (record { 0 = 43 }) ∷ []) ≡ none ∷ on 43 ∷ []
   pub statuses : map pfs_status_word (E.Event ∷ E.Censored ∷ []) ≡ EVENT ∷ CENSORED ∷ []
   pub pfs : pfs_values (record { status = E.Censored; day = record { 0 = 43 } }) ≡ censored 43
   pub best : map best_word (B.CR ∷ B.PR ∷ B.SD ∷ B.PD ∷ B.NE ∷ []) ≡ CR ∷ PR ∷ SD ∷ PD ∷ NE ∷ []
   pub judged : judged_values (record { day = record { 0 = 43 }; answer = O.PR }) ≡ record { day = 43; answer = PR }
-  pub durations : map duration_values (D.Absent ∷ D.ForDays (record { status = E.Event; days = 85 }) ∷ []) ≡ no_duration ∷ for_days EVENT 85 ∷ []
+  pub durations : map duration_values (None ∷ Some (record { status = E.Event; days = 85 }) ∷ []) ≡ no_duration ∷ for_days EVENT 85 ∷ []
 
 -- the course of the records behind one target of 100 mm, in the order recorded
 abbrev pub course_of : List StudyRecord → Course

@@ -1,16 +1,14 @@
 -- Document 01, "Outcome": the values of its parts, and the word and values of each declared case.
 -- Assumes nothing.
-use Rattle.std.specs.Prelude.{ℕ, Bool, true, false}
+use Rattle.std.specs.Prelude.{ℕ, Bool, true, false, Option, Some, None}
+use Rattle.dates.specs.declared.StudyDay.{StudyDay}
 use Rattle.response_rules.specs.Words.{Word, CR, PR, SD, PD, NE}
-use Rattle.outcome_rules.specs.declared.MaybeDay.{MaybeDay}
-use Rattle.outcome_rules.specs.declared.MaybeDay.TheVariants as M
 use Rattle.outcome_rules.specs.declared.PfsStatus.{PfsStatus}
 use Rattle.outcome_rules.specs.declared.PfsStatus.TheVariants as E
 use Rattle.outcome_rules.specs.declared.PfsResult.{PfsResult}
 use Rattle.outcome_rules.specs.declared.BestResponse.{BestResponse}
 use Rattle.outcome_rules.specs.declared.BestResponse.TheVariants as B
-use Rattle.outcome_rules.specs.declared.DurationAnswer.{DurationAnswer}
-use Rattle.outcome_rules.specs.declared.DurationAnswer.TheVariants as D
+use Rattle.outcome_rules.specs.declared.DurationResult.{DurationResult}
 
 -- a study day that may be absent
 pub data Day : Type 0 where
@@ -65,9 +63,9 @@ pub record Outcome : Type 0 where
   pub duration_settled : Bool
 
 -- the declared cases
-abbrev pub day_value : MaybeDay → Day
-day_value M.Absent = none
-day_value (M.On d) = on d.0
+abbrev pub day_value : Option StudyDay → Day
+day_value None = none
+day_value (Some d) = on d.0
 
 abbrev pub pfs_status_word : PfsStatus → PfsWord
 pfs_status_word E.Event = EVENT
@@ -83,6 +81,6 @@ best_word B.SD = SD
 best_word B.PD = PD
 best_word B.NE = NE
 
-abbrev pub duration_values : DurationAnswer → Duration
-duration_values D.Absent = no_duration
-duration_values (D.ForDays r) = for_days (pfs_status_word r.status) r.days
+abbrev pub duration_values : Option DurationResult → Duration
+duration_values None = no_duration
+duration_values (Some r) = for_days (pfs_status_word r.status) r.days

@@ -5,13 +5,6 @@
 use dates::StudyDay;
 use response_rules::OverallAnswer;
 
-// A study day that may be absent.
-#[derive(Clone, Copy)]
-pub enum MaybeDay {
-    Absent,
-    On(StudyDay),
-}
-
 #[derive(Clone, Copy)]
 pub struct JudgedVisit {
     pub day: StudyDay,
@@ -31,7 +24,7 @@ pub struct PfsResult {
     pub day: StudyDay,
 }
 
-#[derive(Clone, Copy)]
+#[derive(Clone, Copy, PartialEq, Eq, PartialOrd, Ord)]
 pub enum BestResponse {
     CR,
     PR,
@@ -46,10 +39,4 @@ pub enum BestResponse {
 pub struct DurationResult {
     pub status: PfsStatus,
     pub days: u64,
-}
-
-#[derive(Clone, Copy)]
-pub enum DurationAnswer {
-    Absent,
-    ForDays(DurationResult),
 }

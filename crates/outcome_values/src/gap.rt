@@ -6,11 +6,11 @@ use super::days::days_between;
 use dates::StudyDay;
 
 // The limit in days, by the previous visit's day; there is no day 0.
+#[tactic(auto, unfolding(outcome_rules::specs::Pfs::gap_limit))]
 fn gap_limit(previous: StudyDay) -> u32
     ensures { result ≡ gap_limit previous.0 }
 {
-    let day = previous.0;
-    match day {
+    match previous.0 {
         0..=1 => 91,
         2..=119 => 98,
         120..=161 => 112,

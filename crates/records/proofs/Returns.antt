@@ -4,6 +4,7 @@ use mathlib.Core.Path.{◌≡◌, ◌∙◌}
 use mathlib.Core.Bool.{Bool, true, false, not, ◌||◌}
 use mathlib.Core.List.{List, [], ◌∷◌}
 use Prim.Native.Nat.{ℕ}
+use Rattle.std.specs.Prelude.{Result}
 use Rattle.laws.specs.Choice.{either}
 use Rattle.laws.specs.Refusals.{◌when◌, first}
 use Rattle.dates.specs.Calendar.{date_exists}
@@ -11,10 +12,8 @@ use Rattle.dates.specs.declared.Date.{Date}
 use Rattle.records.specs.Entries.{date_of}
 use Rattle.records.specs.Refusals.{check_number, measured_outside_limits, not_zero_unmeasured, some_target, outside_limits, not_zero, ChecksVisit, refusals_of_read}
 use Rattle.records.specs.declared.Entry.{Entry}
-use Rattle.records.specs.declared.Entry.TheVariants.{Visit}
-use Rattle.records.specs.declared.VisitEntry.{VisitEntry}
 use Rattle.records.specs.declared.Record.{Record}
-use Rattle.records.specs.declared.CheckAnswer.{CheckAnswer}
+use Rattle.records.specs.declared.OwnRefusal.{OwnRefusal}
 use Rattle.records.specs.Forms.{new_unit}
 
 module _ (r : Record) (badstatus spare : Bool) (d : Date) (v : Bool) (de : d ≡ date_of r.entry) (ve : v ≡ date_exists d) where
@@ -32,12 +31,8 @@ module _ (r : Record) (badstatus spare : Bool) (d : Date) (v : Bool) (de : d ≡
     unfolding refusals_of_read
     by_fields n u e = rw (← de, ← ve, h, u) e
 
-pub visit_refusal : (measured : List Bool) (sizes : List ℕ) (badstatus spare large sized : Bool) (c : CheckAnswer) →
+pub visit_refusal : (measured : List Bool) (sizes : List ℕ) (badstatus spare large sized : Bool) (c : Result (Unit {0}) OwnRefusal) →
     large ≡ some_target (λ (i : ℕ). measured_outside_limits new_unit) measured sizes → sized ≡ some_target (λ (i : ℕ). not_zero_unmeasured) measured sizes →
     check_number c ≡ first (4 when (badstatus || large) ∷ 5 when (spare || sized) ∷ []) → ChecksVisit measured sizes badstatus spare c
 unfolding outside_limits not_zero
 visit_refusal measured sizes badstatus spare large sized c lq sq e v = e ∙ rw (lq, sq)
-
-pub visit_checked : (e : Entry) (v : VisitEntry) (marks : List Bool) (sizes : List ℕ) (spare : Bool) (c : CheckAnswer) → e ≡ Visit v →
-    ChecksVisit marks sizes false spare c → check_number c ≡ first (4 when outside_limits new_unit e marks sizes ∷ 5 when either spare (not_zero e marks sizes) ∷ [])
-visit_checked e v marks sizes spare c q w = rw q (w v)

@@ -1,13 +1,12 @@
 -- Document 01, "Dates and records" and "Where a call stops", 3 to 5: records on either side of each limit, which of the three comes first, and the numbers
 -- of kinds, statuses and refusals; proved in proofs/AtTheEdges.antt. No example is built with a number that it is to pin down: five places are written as 5.
 -- Assumes nothing.
-use Rattle.std.specs.Prelude.{◌≡◌, Bool, true, false, List, [], ◌∷◌, map, ℕ, zero, suc}
+use Rattle.std.specs.Prelude.{◌≡◌, Bool, true, false, List, [], ◌∷◌, map, ℕ, zero, suc, Ok, Err}
 use Rattle.dates.specs.Laws.{ymd}
 use Rattle.dates.specs.declared.Date.{Date}
 use Rattle.records.specs.Entries.{date_of, kind_number, status_number}
 use Rattle.laws.specs.Refusals.{first}
 use Rattle.records.specs.Refusals.{own_number, check_number, refusals_of_read, refusal_of_record}
-use Rattle.records.specs.declared.CheckAnswer.TheVariants as C
 use Rattle.records.specs.declared.OwnRefusal.TheVariants as O
 use Rattle.records.specs.declared.Entry.{Entry}
 use Rattle.records.specs.declared.Entry.TheVariants as E
@@ -128,4 +127,4 @@ pub record NumbersOfCases : Type 0 where
   pub statuses : map status_number (S.NA ∷ S.CR ∷ S.NN ∷ S.PD ∷ S.NE ∷ []) ≡ 0 ∷ 1 ∷ 2 ∷ 3 ∷ 4 ∷ []
   -- 3 no such date in range; 4 field outside its limits; 5 something that must be zero isn't
   pub refusals : map own_number (O.NoSuchDate ∷ O.OutsideLimits ∷ O.NotZero ∷ []) ≡ 3 ∷ 4 ∷ 5 ∷ []
-  pub answers : map check_number (C.Passed ∷ C.Refused O.NotZero ∷ []) ≡ 0 ∷ 5 ∷ []
+  pub answers : map check_number (Ok tt ∷ Err O.NotZero ∷ []) ≡ 0 ∷ 5 ∷ []

@@ -1,7 +1,7 @@
 -- Document 01, "Dates and records" and "Where a call stops", with the limits of document 02, request 1, in millimetres times the unit: the refusals 3, 4 and
 -- 5 of any record.
 -- Assumes nothing.
-use Rattle.std.specs.Prelude.{◌≡◌, ℕ, ◌*◌, Bool, false, not, List, [], ◌∷◌, ltb, leb, eqb, get_or}
+use Rattle.std.specs.Prelude.{◌≡◌, ℕ, ◌*◌, Bool, false, not, List, [], ◌∷◌, ltb, leb, eqb, get_or, Result, Ok, Err}
 use Rattle.laws.specs.Choice.{both, either, pick, some}
 use Rattle.laws.specs.Refusals.{Refusal, ◌when◌, first}
 use Rattle.dates.specs.Calendar.{date_exists}
@@ -12,8 +12,6 @@ use Rattle.records.specs.declared.Entry.TheVariants.{Baseline, Visit, Therapy, D
 use Rattle.records.specs.declared.BaselineEntry.{BaselineEntry}
 use Rattle.records.specs.declared.VisitEntry.{VisitEntry}
 use Rattle.records.specs.declared.Record.{Record}
-use Rattle.records.specs.declared.CheckAnswer.{CheckAnswer}
-use Rattle.records.specs.declared.CheckAnswer.TheVariants.{Passed, Refused}
 use Rattle.records.specs.declared.OwnRefusal.{OwnRefusal}
 use Rattle.records.specs.declared.OwnRefusal.TheVariants.{NoSuchDate, OutsideLimits, NotZero}
 
@@ -24,9 +22,9 @@ own_number OutsideLimits = 4
 own_number NotZero = 5
 
 -- 0 where no refusal meets
-abbrev pub check_number : CheckAnswer → ℕ
-check_number Passed = 0
-check_number (Refused own) = own_number own
+abbrev pub check_number : Result (Unit {0}) OwnRefusal → ℕ
+check_number (Ok u) = 0
+check_number (Err own) = own_number own
 
 abbrev pub most_targets : ℕ
 most_targets = 5
@@ -105,6 +103,6 @@ module _ (unit : ℕ) where
   refusal_of_record r = first (refusals_of_record r)
 
 -- what checking the fields of a visit promises, whatever its entry: 4 and 5 alone
-abbrev pub ChecksVisit : List Bool → List ℕ → Bool → Bool → CheckAnswer → Type 0
+abbrev pub ChecksVisit : List Bool → List ℕ → Bool → Bool → Result (Unit {0}) OwnRefusal → Type 0
 ChecksVisit measured sizes badstatus spare c =
     (v : VisitEntry) → check_number c ≡ first (refusals_of_fields new_unit false (Visit v) measured sizes badstatus spare)

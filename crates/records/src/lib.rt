@@ -54,6 +54,7 @@ pub enum Entry {
 }
 
 // A record, with the five targets' sizes in tenths of a millimetre beside the entry. A mark is 'node' in a baseline and 'measured' in a visit.
+// Two arrays and no array of targets, as document 01 names them.
 #[derive(Clone, Copy)]
 pub struct Record {
     pub entry: Entry,
@@ -67,12 +68,6 @@ pub enum OwnRefusal {
     NoSuchDate,
     OutsideLimits,
     NotZero,
-}
-
-#[derive(Clone, Copy)]
-pub enum CheckAnswer {
-    Passed,
-    Refused(OwnRefusal),
 }
 
 pub const MOST_TARGETS: u8 = 5;
@@ -96,8 +91,7 @@ pub fn date_of(entry: Entry) -> Date
     match entry {
         Entry::Baseline(b) => b.date,
         Entry::Visit(v) => v.date,
-        Entry::Therapy(d) => d,
-        Entry::Death(d) => d,
+        Entry::Therapy(d) | Entry::Death(d) => d,
     }
 }
 
@@ -127,16 +121,16 @@ fn not_zero(b: BaselineEntry, marks: [bool; 5], sizes: [u16; 5]) -> bool
     }
 }
 
-fn first_of(outside: bool, set: bool) -> CheckAnswer
+fn first_of(outside: bool, set: bool) -> Result<(), OwnRefusal>
     ensures { check_number result ≡ first (4 when outside ∷ 5 when set ∷ []) }
 {
     if outside {
-        return CheckAnswer::Refused(OwnRefusal::OutsideLimits);
+        return Err(OwnRefusal::OutsideLimits);
     }
     if set {
-        return CheckAnswer::Refused(OwnRefusal::NotZero);
+        return Err(OwnRefusal::NotZero);
     }
-    CheckAnswer::Passed
+    Ok(())
 }
 
 // Refusals 4 and 5 of a visit.
@@ -145,7 +139,7 @@ pub fn check_visit(
     sizes: [u16; 5],
     badstatus: bool,
     spare: bool,
-) -> CheckAnswer
+) -> Result<(), OwnRefusal>
     ensures { ChecksVisit measured sizes badstatus spare result }
 {
     first_of(
@@ -155,7 +149,12 @@ pub fn check_visit(
 }
 
 // Refusals 4 and 5, with a spare bit that is set beside them.
-fn check_fields(entry: Entry, marks: [bool; 5], sizes: [u16; 5], spare: bool) -> CheckAnswer
+fn check_fields(
+    entry: Entry,
+    marks: [bool; 5],
+    sizes: [u16; 5],
+    spare: bool,
+) -> Result<(), OwnRefusal>
     ensures { check_number result ≡ first (4 when outside_limits new_unit entry marks sizes ∷ 5 when either spare (not_zero entry marks sizes) ∷ []) }
 {
     match entry {
@@ -166,11 +165,7 @@ fn check_fields(entry: Entry, marks: [bool; 5], sizes: [u16; 5], spare: bool) ->
             )
         }
         Entry::Visit(_) => check_visit(marks, sizes, false, spare),
-        Entry::Therapy(_) => first_of(
-            false,
-            spare | targets::some_not_zero_beyond_count(0, marks, sizes),
-        ),
-        Entry::Death(_) => first_of(
+        Entry::Therapy(_) | Entry::Death(_) => first_of(
             false,
             spare | targets::some_not_zero_beyond_count(0, marks, sizes),
         ),
@@ -179,22 +174,19 @@ fn check_fields(entry: Entry, marks: [bool; 5], sizes: [u16; 5], spare: bool) ->
 
 // The record's own refusals in the order of their numbers. What was read beside the record goes with them: a status that is none
 // is outside its limits, and a spare bit that is set is not zero.
-pub fn check_read(r: Record, badstatus: bool, spare: bool) -> CheckAnswer
+pub fn check_read(r: Record, badstatus: bool, spare: bool) -> Result<(), OwnRefusal>
     ensures { check_number result ≡ first (refusals_of_read new_unit r badstatus spare) }
 {
-    let entry = r.entry;
-    let marks = r.marks;
-    let sizes = r.sizes;
-    if !dates::date_exists(date_of(entry)) {
-        return CheckAnswer::Refused(OwnRefusal::NoSuchDate);
+    if !dates::date_exists(date_of(r.entry)) {
+        return Err(OwnRefusal::NoSuchDate);
     }
     if badstatus {
-        return CheckAnswer::Refused(OwnRefusal::OutsideLimits);
+        return Err(OwnRefusal::OutsideLimits);
     }
-    check_fields(entry, marks, sizes, spare)
+    check_fields(r.entry, r.marks, r.sizes, spare)
 }
 
-pub fn check(r: Record) -> CheckAnswer
+pub fn check(r: Record) -> Result<(), OwnRefusal>
     ensures { check_number result ≡ refusal_of_record new_unit r }
 {
     check_read(r, false, false)

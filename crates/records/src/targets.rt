@@ -1,6 +1,5 @@
 // What some of the five targets breaks, by its place, its mark and its size.
-ghost use Rattle.std.specs.Prelude.{◌≡◌, ℕ};
-ghost use Rattle.laws.specs.Choice.{either};
+ghost use Rattle.std.specs.Prelude.{◌≡◌, ℕ, Bool};
 ghost use Rattle.records.specs.Refusals.{least_size, size_outside_limits, measured_outside_limits, not_zero_beyond_count, not_zero_unmeasured, some_target};
 ghost use Rattle.records.specs.Forms.{new_unit};
 
@@ -17,80 +16,83 @@ fn least_size(node: bool) -> u16
     if node { LEAST_NODE } else { LEAST_OTHER }
 }
 
+#[tactic(auto, unfolding(crate::specs::Refusals::size_outside_limits))]
 fn size_outside_limits(count: u8, i: u8, node: bool, size: u16) -> bool
     ensures { result ≡ size_outside_limits new_unit count i node size }
 {
     i < count && (size < least_size(node) || LARGEST_SIZE < size)
 }
 
+#[tactic(auto, unfolding(crate::specs::Refusals::measured_outside_limits))]
 fn measured_outside_limits(measured: bool, size: u16) -> bool
     ensures { result ≡ measured_outside_limits new_unit measured size }
 {
     measured && LARGEST_SIZE < size
 }
 
+#[tactic(auto, unfolding(crate::specs::Refusals::not_zero_beyond_count))]
 fn not_zero_beyond_count(count: u8, i: u8, mark: bool, size: u16) -> bool
     ensures { result ≡ not_zero_beyond_count count i mark size }
 {
     count <= i && (mark || 0 < size)
 }
 
+#[tactic(auto, unfolding(crate::specs::Refusals::not_zero_unmeasured))]
 fn not_zero_unmeasured(measured: bool, size: u16) -> bool
     ensures { result ≡ not_zero_unmeasured measured size }
 {
     !measured && 0 < size
 }
 
-fn any_of_five(a: bool, b: bool, c: bool, d: bool, e: bool) -> bool
-    ensures { result ≡ either (either (either (either a b) c) d) e }
+// Whether some of the five targets passes the test of its place, its mark and its size.
+fn some_target<F: Fn(u8, bool, u16) -> bool>(test: F, marks: [bool; 5], sizes: [u16; 5]) -> bool
+    requires { F.IsAlwaysCallable test }
+    ensures { (f : ℕ → Bool → ℕ → Bool) → ((i : ℕ) (mark : Bool) (size : ℕ) (r : Bool) → F.post test i mark size r → r ≡ f i mark size) → result ≡ some_target f marks sizes }
 {
-    a | b | c | d | e
+    for i in 0..5 {
+        if test(i as u8, marks[i], sizes[i]) {
+            return true;
+        }
+    }
+    false
 }
 
 pub(crate) fn some_size_outside_limits(count: u8, nodes: [bool; 5], sizes: [u16; 5]) -> bool
     ensures { result ≡ some_target (size_outside_limits new_unit count) nodes sizes }
 {
-    any_of_five(
-        size_outside_limits(count, 0, nodes[0], sizes[0]),
-        size_outside_limits(count, 1, nodes[1], sizes[1]),
-        size_outside_limits(count, 2, nodes[2], sizes[2]),
-        size_outside_limits(count, 3, nodes[3], sizes[3]),
-        size_outside_limits(count, 4, nodes[4], sizes[4]),
+    some_target(
+        |i, node, size| size_outside_limits(count, i, node, size),
+        nodes,
+        sizes,
     )
 }
 
 pub(crate) fn some_measured_outside_limits(marks: [bool; 5], sizes: [u16; 5]) -> bool
     ensures { result ≡ some_target (λ (i : ℕ). measured_outside_limits new_unit) marks sizes }
 {
-    any_of_five(
-        measured_outside_limits(marks[0], sizes[0]),
-        measured_outside_limits(marks[1], sizes[1]),
-        measured_outside_limits(marks[2], sizes[2]),
-        measured_outside_limits(marks[3], sizes[3]),
-        measured_outside_limits(marks[4], sizes[4]),
+    some_target(
+        |_, measured, size| measured_outside_limits(measured, size),
+        marks,
+        sizes,
     )
 }
 
 pub(crate) fn some_not_zero_beyond_count(count: u8, marks: [bool; 5], sizes: [u16; 5]) -> bool
     ensures { result ≡ some_target (not_zero_beyond_count count) marks sizes }
 {
-    any_of_five(
-        not_zero_beyond_count(count, 0, marks[0], sizes[0]),
-        not_zero_beyond_count(count, 1, marks[1], sizes[1]),
-        not_zero_beyond_count(count, 2, marks[2], sizes[2]),
-        not_zero_beyond_count(count, 3, marks[3], sizes[3]),
-        not_zero_beyond_count(count, 4, marks[4], sizes[4]),
+    some_target(
+        |i, mark, size| not_zero_beyond_count(count, i, mark, size),
+        marks,
+        sizes,
     )
 }
 
 pub(crate) fn some_not_zero_unmeasured(marks: [bool; 5], sizes: [u16; 5]) -> bool
     ensures { result ≡ some_target (λ (i : ℕ). not_zero_unmeasured) marks sizes }
 {
-    any_of_five(
-        not_zero_unmeasured(marks[0], sizes[0]),
-        not_zero_unmeasured(marks[1], sizes[1]),
-        not_zero_unmeasured(marks[2], sizes[2]),
-        not_zero_unmeasured(marks[3], sizes[3]),
-        not_zero_unmeasured(marks[4], sizes[4]),
+    some_target(
+        |_, measured, size| not_zero_unmeasured(measured, size),
+        marks,
+        sizes,
     )
 }

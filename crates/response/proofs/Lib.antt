@@ -1,5 +1,3 @@
 pub mod AtTheEdges
-pub mod TargetReturns
-pub mod OverallReturns
-pub mod NadirReturns
-pub mod ChangeReturns
+pub mod GridCells
+pub mod FirstPlaces

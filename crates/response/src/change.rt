@@ -1,10 +1,10 @@
 // The change from baseline.
-ghost use Rattle.std.specs.Prelude.{◌≡◌, ◌*◌, ◌≤◌};
+ghost use Rattle.std.specs.Prelude.{◌≡◌, ◌*◌, ◌≤◌, Some};
 ghost use Rattle.response_rules.specs.Inputs.{Visit};
 ghost use Rattle.response_rules.specs.SumOfDiameters.{sum_of_diameters, all_measured};
 ghost use Rattle.response_rules.specs.Change.{nearest, change_values, change_between, change_of};
 
-use response_rules::{BaselineDisease, ChangeAnswer};
+use response_rules::{BaselineDisease, Change};
 
 // A part of the baseline sum in tenths of a percent.
 fn tenths(part: u32, baseline: u32) -> u64
@@ -15,36 +15,31 @@ fn tenths(part: u32, baseline: u32) -> u64
     (2 * (1000 * part as u64) + whole) / (2 * whole)
 }
 
-fn change_between(baseline: u32, sum: u32) -> ChangeAnswer
+#[tactic(auto, unfolding(response_rules::specs::Change::change_between))]
+fn change_between(baseline: u32, sum: u32) -> Change
     requires { 1 ≤ baseline }
-    ensures { change_values result ≡ change_between baseline sum }
+    ensures { change_values (Some result) ≡ change_between baseline sum }
 {
     if baseline <= sum {
-        return ChangeAnswer::Increase(tenths(sum - baseline, baseline));
+        return Change::Increase(tenths(sum - baseline, baseline));
     }
-    let less = tenths(baseline - sum, baseline);
-    if less == 0 {
-        return ChangeAnswer::Increase(0);
+    match tenths(baseline - sum, baseline) {
+        0 => Change::Increase(0),
+        less => Change::Decrease(less),
     }
-    ChangeAnswer::Decrease(less)
 }
 
 // `complete`: every target is measured.
+#[tactic(auto, unfolding(response_rules::specs::Change::change_of))]
 pub(crate) fn change_from_baseline(
     baseline: BaselineDisease,
     complete: bool,
     sum: u32,
-) -> ChangeAnswer
+) -> Option<Change>
     ensures { (v : Visit) → complete ≡ all_measured baseline.count v.measured → sum ≡ sum_of_diameters v.measured v.sizes → change_values result ≡ change_of baseline v }
 {
-    if baseline.count == 0 {
-        return ChangeAnswer::Absent;
+    if baseline.count == 0 || !complete || baseline.baselinesum == 0 {
+        return None;
     }
-    if !complete {
-        return ChangeAnswer::Absent;
-    }
-    if baseline.baselinesum == 0 {
-        return ChangeAnswer::Absent;
-    }
-    change_between(baseline.baselinesum, sum)
+    Some(change_between(baseline.baselinesum, sum))
 }

@@ -1,12 +1,13 @@
 // The grid and the overall answer.
-ghost use Rattle.std.specs.Prelude.{◌≡◌, ◌<◌, ◌≤◌};
+ghost use Rattle.std.specs.Prelude.{◌≡◌, ◌<◌, ◌≤◌, None, Some, IfSome};
+ghost use Rattle.laws.specs.Choice.{pick};
 ghost use Rattle.response_rules.specs.Words.{PD, code_of, target_word, status_word, overall_word};
-ghost use Rattle.response_rules.specs.OverallAnswer.{rows, columns, row_of, column_of, cell, overall_by};
+ghost use Rattle.response_rules.specs.OverallAnswer.{rows, columns, row_of, column_of, cell, is_pd, overall_by};
 
 use records::Status;
 use response_rules::{OverallAnswer, TargetAnswer};
 
-// The codes of answers in the grid; PD, which no cell has, follows them.
+// The codes of answers in the grid; PD, which no cell has, follows them. Document 01 names a table of answer codes, so they stay numbers.
 const CR: u8 = 0;
 
 const PR: u8 = 1;
@@ -14,10 +15,6 @@ const PR: u8 = 1;
 const SD: u8 = 2;
 
 const NE: u8 = 3;
-
-const ROWS: usize = 5;
-
-const COLUMNS: usize = 4;
 
 // Target rows CR, PR, SD, NE, NA; non-target columns CR, NN, NE, NA.
 const GRID: [[u8; 4]; 5] = [
@@ -29,29 +26,31 @@ const GRID: [[u8; 4]; 5] = [
 ];
 
 // PD has no row.
-fn row(target: TargetAnswer) -> usize
-    ensures { result ≡ row_of (target_word target) }
+fn row(target: TargetAnswer) -> Option<usize>
+    ensures number { result ≡ pick (is_pd (target_word target)) None (Some (row_of (target_word target))) }
+    ensures in_grid { IfSome result (λ r. r < rows) }
 {
     match target {
-        TargetAnswer::CR => 0,
-        TargetAnswer::PR => 1,
-        TargetAnswer::SD => 2,
-        TargetAnswer::NE => 3,
-        TargetAnswer::NA => 4,
-        TargetAnswer::PD => ROWS,
+        TargetAnswer::CR => Some(0),
+        TargetAnswer::PR => Some(1),
+        TargetAnswer::SD => Some(2),
+        TargetAnswer::NE => Some(3),
+        TargetAnswer::NA => Some(4),
+        TargetAnswer::PD => None,
     }
 }
 
 // PD has no column.
-fn column(status: Status) -> usize
-    ensures { result ≡ column_of (status_word status) }
+fn column(status: Status) -> Option<usize>
+    ensures number { result ≡ pick (is_pd (status_word status)) None (Some (column_of (status_word status))) }
+    ensures in_grid { IfSome result (λ c. c < columns) }
 {
     match status {
-        Status::CR => 0,
-        Status::NN => 1,
-        Status::NE => 2,
-        Status::NA => 3,
-        Status::PD => COLUMNS,
+        Status::CR => Some(0),
+        Status::NN => Some(1),
+        Status::NE => Some(2),
+        Status::NA => Some(3),
+        Status::PD => None,
     }
 }
 
@@ -75,6 +74,7 @@ fn answer(code: u8) -> OverallAnswer
     }
 }
 
+#[tactic(auto, unfolding(response_rules::specs::OverallAnswer::overall_by))]
 pub(crate) fn overall_answer(
     assessed: bool,
     newlesion: bool,
@@ -89,13 +89,8 @@ pub(crate) fn overall_answer(
     if newlesion {
         return OverallAnswer::PD;
     }
-    let row = row(target);
-    let column = column(status);
-    if ROWS <= row {
+    let (Some(row), Some(column)) = (row(target), column(status)) else {
         return OverallAnswer::PD;
-    }
-    if COLUMNS <= column {
-        return OverallAnswer::PD;
-    }
+    };
     answer(code_at(row, column))
 }

@@ -5,7 +5,7 @@ ghost use Rattle.response_rules.specs.Inputs.{visit_of};
 ghost use Rattle.response.specs.Judging.{JudgesBaseline, JudgesVisit};
 
 use records::{BaselineEntry, VisitEntry};
-use response_rules::{BaselineDisease, ChangeAnswer, Earlier, OverallAnswer, TargetAnswer};
+use response_rules::{BaselineDisease, Change, Earlier, OverallAnswer, TargetAnswer};
 
 mod sums; // sums.rt: sums of sizes, and whether every target is measured
 mod targets; // targets.rt: the target answer
@@ -24,7 +24,7 @@ pub struct BaselineAnswer {
 pub struct VisitAnswer {
     pub target: TargetAnswer,
     pub overall: OverallAnswer,
-    pub change: ChangeAnswer,
+    pub change: Option<Change>,
     // What this visit and the earlier ones leave for judging the next one.
     pub after: Earlier,
 }
@@ -36,15 +36,16 @@ pub fn judge_baseline(entry: BaselineEntry, nodes: [bool; 5], sizes: [u16; 5]) -
     let disease = BaselineDisease {
         assessed: entry.assessed,
         count: entry.count,
-        nodes: nodes,
+        nodes,
         baselinesum: sum,
     };
     BaselineAnswer {
-        disease: disease,
+        disease,
         after: Earlier { nadir: sum },
     }
 }
 
+#[tactic(auto, unfolding(response_rules::specs::VisitAnswers::overall_answer))]
 pub fn judge_visit(
     baseline: BaselineDisease,
     earlier: Earlier,
@@ -54,17 +55,13 @@ pub fn judge_visit(
 ) -> VisitAnswer
     ensures { JudgesVisit baseline earlier (visit_of entry measured sizes) result }
 {
-    let status = entry.status;
     let sum = sums::sum_of_diameters(measured, sizes);
     let complete = sums::all_measured(baseline.count, measured);
-    let target = targets::target_answer(baseline, earlier, measured, sizes);
-    let overall = grid::overall_answer(baseline.assessed, entry.newlesion, target, status);
-    let change = change::change_from_baseline(baseline, complete, sum);
-    let after = nadir::after_visit(earlier, complete, sum);
+    let target = targets::target_answer(baseline, earlier, complete, sum, sizes);
     VisitAnswer {
-        target: target,
-        overall: overall,
-        change: change,
-        after: after,
+        target,
+        overall: grid::overall_answer(baseline.assessed, entry.newlesion, target, entry.status),
+        change: change::change_from_baseline(baseline, complete, sum),
+        after: nadir::after_visit(earlier, complete, sum),
     }
 }

@@ -2,10 +2,10 @@
 ghost use Rattle.std.specs.Prelude.{◌≡◌};
 ghost use Rattle.response_rules.specs.Words.{target_word};
 ghost use Rattle.response_rules.specs.Inputs.{Visit};
+ghost use Rattle.response_rules.specs.SumOfDiameters.{sum_of_diameters, all_measured};
 ghost use Rattle.response_rules.specs.TargetAnswer.{disappeared, all_disappeared, progression_from_nadir, partial_response, target_answer};
 ghost use Rattle.records.specs.Forms.{new_unit};
 
-use super::sums::{all_measured, sum_of_diameters};
 use response_rules::{BaselineDisease, Earlier, TargetAnswer};
 
 // In tenths of a millimetre; document 02 calls a node below 10 mm normal.
@@ -29,13 +29,15 @@ fn has_disappeared(node: bool, size: u16) -> bool
 fn all_disappeared(count: u8, nodes: [bool; 5], sizes: [u16; 5]) -> bool
     ensures { result ≡ all_disappeared new_unit count nodes sizes }
 {
-    (count <= 0 || has_disappeared(nodes[0], sizes[0]))
-        && ((count <= 1 || has_disappeared(nodes[1], sizes[1]))
-            && ((count <= 2 || has_disappeared(nodes[2], sizes[2]))
-                && ((count <= 3 || has_disappeared(nodes[3], sizes[3]))
-                    && (count <= 4 || has_disappeared(nodes[4], sizes[4])))))
+    for i in 0..5 {
+        if i < count as usize && !has_disappeared(nodes[i], sizes[i]) {
+            return false;
+        }
+    }
+    true
 }
 
+#[tactic(auto, unfolding(response_rules::specs::TargetAnswer::progression_from_nadir))]
 fn progression_from_nadir(nadir: u32, sum: u32) -> bool
     ensures { result ≡ progression_from_nadir new_unit nadir sum }
 {
@@ -43,27 +45,28 @@ fn progression_from_nadir(nadir: u32, sum: u32) -> bool
         && PROGRESSION_FIFTHS * nadir as u64 <= 5 * sum as u64
 }
 
+#[tactic(auto, unfolding(response_rules::specs::TargetAnswer::partial_response))]
 fn partial_response(baseline: u32, sum: u32) -> bool
     ensures { result ≡ partial_response baseline sum }
 {
     10 * sum as u64 <= PARTIAL_RESPONSE_TENTHS * baseline as u64
 }
 
+// `complete`: every target is measured.
+#[tactic(auto, unfolding(response_rules::specs::TargetAnswer::target_answer))]
 pub(crate) fn target_answer(
     baseline: BaselineDisease,
     earlier: Earlier,
-    measured: [bool; 5],
+    complete: bool,
+    sum: u32,
     sizes: [u16; 5],
 ) -> TargetAnswer
-    ensures { (v : Visit) → measured ≡ v.measured → sizes ≡ v.sizes → target_word result ≡ target_answer new_unit baseline earlier v }
+    ensures { (v : Visit) → complete ≡ all_measured baseline.count v.measured → sum ≡ sum_of_diameters v.measured v.sizes → sizes ≡ v.sizes → target_word result ≡ target_answer new_unit baseline earlier v }
 {
     if baseline.count == 0 {
         return TargetAnswer::NA;
     }
-    let nodes = baseline.nodes;
-    let sum = sum_of_diameters(measured, sizes);
-    let complete = all_measured(baseline.count, measured);
-    if complete & all_disappeared(baseline.count, nodes, sizes) {
+    if complete && all_disappeared(baseline.count, baseline.nodes, sizes) {
         return TargetAnswer::CR;
     }
     if progression_from_nadir(earlier.nadir, sum) {

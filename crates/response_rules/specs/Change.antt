@@ -1,12 +1,12 @@
 -- Document 01, "Change in size, file and listing": the change from baseline.
 -- Assumes nothing.
-use Rattle.std.specs.Prelude.{ℕ, ◌+◌, ◌-◌, ◌*◌, ◌/◌, Bool, true, false, not, ltb, eqb}
+use Rattle.std.specs.Prelude.{ℕ, ◌+◌, ◌-◌, ◌*◌, ◌/◌, Bool, true, false, not, Option, None, Some, ltb, eqb}
 use Rattle.laws.specs.Choice.{both, either, pick}
 use Rattle.response_rules.specs.Inputs.{Visit}
 use Rattle.response_rules.specs.SumOfDiameters.{sum_of_diameters, all_measured}
 use Rattle.response_rules.specs.declared.BaselineDisease.{BaselineDisease}
-use Rattle.response_rules.specs.declared.ChangeAnswer.{ChangeAnswer}
-use Rattle.response_rules.specs.declared.ChangeAnswer.TheVariants.{Absent, Increase, Decrease}
+use Rattle.response_rules.specs.declared.Change.{Change}
+use Rattle.response_rules.specs.declared.Change.TheVariants.{Increase, Decrease}
 
 -- tenths of a percent with their sign; zero has none, and all is zero where there is no change
 pub record Tenths : Type 0 where
@@ -20,10 +20,10 @@ none = record { known = false; negative = false; tenths = 0 }
 abbrev pub signed : Bool → ℕ → Tenths
 signed negative n = record { known = true; negative = negative; tenths = n }
 
-abbrev pub change_values : ChangeAnswer → Tenths
-change_values Absent = none
-change_values (Increase n) = signed false n
-change_values (Decrease n) = signed true n
+abbrev pub change_values : Option Change → Tenths
+change_values None = none
+change_values (Some (Increase n)) = signed false n
+change_values (Some (Decrease n)) = signed true n
 
 -- the whole number nearest to n / d, the larger of two equally near
 abbrev pub nearest : ℕ → ℕ → ℕ

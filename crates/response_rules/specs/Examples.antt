@@ -1,7 +1,7 @@
 -- Document 01, "Examples at the edges", its wrong readings and the printed example, as far as they are of visits, cases in which one sentence of "Visit
 -- responses" applies alone, and the words of the declared cases: stated here, proved in proofs/AtTheEdges.antt.
 -- Assumes nothing.
-use Rattle.std.specs.Prelude.{◌≡◌, Bool, true, false, List, [], ◌∷◌, map, ℕ, length}
+use Rattle.std.specs.Prelude.{◌≡◌, Bool, true, false, None, Some, List, [], ◌∷◌, map, ℕ, length}
 use Rattle.dates.specs.Laws.{ymd}
 use Rattle.records.specs.declared.Status.{Status}
 use Rattle.records.specs.declared.Status.TheVariants as S
@@ -18,7 +18,7 @@ use Rattle.response_rules.specs.declared.BaselineDisease.{BaselineDisease}
 use Rattle.response_rules.specs.declared.Earlier.{Earlier}
 use Rattle.response_rules.specs.declared.TargetAnswer.TheVariants as T
 use Rattle.response_rules.specs.declared.OverallAnswer.TheVariants as O
-use Rattle.response_rules.specs.declared.ChangeAnswer.TheVariants as C
+use Rattle.response_rules.specs.declared.Change.TheVariants as C
 
 -- an assessed baseline with non-target disease and these targets; a target without a mark is no node
 abbrev pub baseline_with : List Bool → List ℕ → BaselineDisease
@@ -207,7 +207,7 @@ pub record WordsOfCases : Type 0 where
   pub targets : map target_word (T.CR ∷ T.PR ∷ T.SD ∷ T.PD ∷ T.NE ∷ T.NA ∷ []) ≡ CR ∷ PR ∷ SD ∷ PD ∷ NE ∷ NA ∷ []
   pub nontargets : map status_word (S.NA ∷ S.CR ∷ S.NN ∷ S.PD ∷ S.NE ∷ []) ≡ NA ∷ CR ∷ NN ∷ PD ∷ NE ∷ []
   pub overalls : map overall_word (O.CR ∷ O.PR ∷ O.SD ∷ O.PD ∷ O.NE ∷ []) ≡ CR ∷ PR ∷ SD ∷ PD ∷ NE ∷ []
-  pub changes : map change_values (C.Absent ∷ C.Increase 5 ∷ C.Decrease 5 ∷ [])
+  pub changes : map change_values (None ∷ Some (C.Increase 5) ∷ Some (C.Decrease 5) ∷ [])
       ≡ record { known = false; negative = false; tenths = 0 }
       ∷ record { known = true; negative = false; tenths = 5 }
       ∷ record { known = true; negative = true; tenths = 5 }

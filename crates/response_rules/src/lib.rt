@@ -43,10 +43,9 @@ pub enum OverallAnswer {
     PD,
 }
 
-// Tenths of a percent. A decrease is at least one tenth.
+// Tenths of a percent; a decrease is at least one tenth. `None` of it: there is no change to give.
 #[derive(Clone, Copy)]
-pub enum ChangeAnswer {
-    Absent,
+pub enum Change {
     Increase(u64),
     Decrease(u64),
 }

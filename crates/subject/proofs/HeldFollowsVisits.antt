@@ -7,11 +7,11 @@ use Prim.Native.Nat.{ℕ, ◌+◌, ◌≤◌}
 use native.Mathlib.Omega.{arith}
 use lib.Dec.{leb}
 use borrow.Author.Tests.{le-leb, leb-true}
+use Rattle.std.specs.Prelude.{None}
 use Rattle.laws.specs.Choice.{both, either, pick}
 use Rattle.laws.proofs.Tests.{either_with_false}
 use Rattle.response_rules.specs.Words.{Word, CR, PR, SD, PD, NE, NA, NN}
 use Rattle.response_rules.specs.OverallAnswer.{is_pd, evaluable}
-use Rattle.outcome_rules.specs.declared.MaybeDay.TheVariants as M
 use Rattle.outcome_rules.specs.Values.{Day, none, on, is_recorded, ◌or_else◌, day_value, best_word}
 use Rattle.outcome_rules.specs.Course.{Judged, first_pd}
 use Rattle.outcome_rules.specs.BestResponse.{is_cr, is_response, is_stable_or_better, allowed_between_cr, stable_disease_from, confirmation_days, confirms, confirms_earlier_cr, confirmed_cr, confirms_earlier_response, confirmed_response, stable_disease, best_of}
@@ -111,7 +111,7 @@ module _ (d : ℕ) where
   first_follows (on s) true = refl
   first_follows (on s) false = refl
 
-  start_follows : (f : Day) (c m : Bool) → pick c (first_recorded (maybe f) (at d)) (pick m (maybe f) M.Absent) ≡ maybe (pick c (f or_else on d) (pick m f none))
+  start_follows : (f : Day) (c m : Bool) → pick c (first_recorded (maybe f) (at d)) (pick m (maybe f) None) ≡ maybe (pick c (f or_else on d) (pick m f none))
   start_follows none true m = refl
   start_follows (on s) true m = refl
   start_follows f false true = refl

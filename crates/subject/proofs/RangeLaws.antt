@@ -5,13 +5,13 @@ use mathlib.Core.Bool.{Bool, true, false}
 use Prim.Native.Nat.{ℕ}
 use lib.Dec.{leb}
 use borrow.Author.Tests.{leb-true, le-leb}
+use Rattle.std.specs.Prelude.{Option, Some, None}
 use Rattle.laws.specs.Choice.{pick}
 use Rattle.laws.proofs.Tests.{both_true}
+use Rattle.dates.specs.declared.StudyDay.{StudyDay}
 use Rattle.dates.specs.Calendar.{last_day_number, date_exists}
 use Rattle.records.specs.Refusals.{most_targets}
 use Rattle.response_rules.specs.OverallAnswer.{is_pd, evaluable}
-use Rattle.outcome_rules.specs.declared.MaybeDay.{MaybeDay}
-use Rattle.outcome_rules.specs.declared.MaybeDay.TheVariants as M
 use Rattle.outcome_rules.specs.Values.{is_recorded, day_value}
 use Rattle.outcome_rules.specs.Course.{Judged}
 use Rattle.outcome_rules.specs.BestResponse.{is_cr, is_response, allowed_between_cr}
@@ -33,13 +33,13 @@ within d e = let p = both_true (leb first_day d) _ e in (leb-true first_day d p.
 day_in_range_lem : (d : ℕ) → Within d → day_in_range d ≡ true
 day_in_range_lem d w = rw (le-leb first_day d w.0, le-leb d last_day_number w.1)
 
-absent_or_within : (m : MaybeDay) → maybe_in_range m ≡ true → AbsentOrWithin m
-absent_or_within M.Absent e = tt
-absent_or_within (M.On d) e = within d.0 e
+absent_or_within : (m : Option StudyDay) → maybe_in_range m ≡ true → AbsentOrWithin m
+absent_or_within None e = tt
+absent_or_within (Some d) e = within d.0 e
 
-maybe_in_range_lem : (m : MaybeDay) → AbsentOrWithin m → maybe_in_range m ≡ true
-maybe_in_range_lem M.Absent w = refl
-maybe_in_range_lem (M.On d) w = day_in_range_lem d.0 w
+maybe_in_range_lem : (m : Option StudyDay) → AbsentOrWithin m → maybe_in_range m ≡ true
+maybe_in_range_lem None w = refl
+maybe_in_range_lem (Some d) w = day_in_range_lem d.0 w
 
 pub enrolment_within : (e : Enrolment) → enrolment_in_range e ≡ true → EnrolmentWithin e
 unfolding enrolment_in_range
@@ -105,11 +105,11 @@ range_laws = record { exactly = λ s. (subject_within s, in_range_lem s) }
 -- ---- one visit more
 
 module _ (j : Judged) (w : Within j.day) where
-  first_within : (m : MaybeDay) → AbsentOrWithin m → AbsentOrWithin (first_recorded m (at j.day))
-  first_within M.Absent h = w
-  first_within (M.On e) h = h
+  first_within : (m : Option StudyDay) → AbsentOrWithin m → AbsentOrWithin (first_recorded m (at j.day))
+  first_within None h = w
+  first_within (Some e) h = h
 
-  pick_within : (x : Bool) (m n : MaybeDay) → AbsentOrWithin m → AbsentOrWithin n → AbsentOrWithin (pick x m n)
+  pick_within : (x : Bool) (m n : Option StudyDay) → AbsentOrWithin m → AbsentOrWithin n → AbsentOrWithin (pick x m n)
   pick_within true m n h k = h
   pick_within false m n h k = k
 
@@ -128,12 +128,12 @@ module _ (j : Judged) (w : Within j.day) where
   unfolding counting_after
   counting_within c h =
       let after = first_recorded c.crstart (at j.day) in
-      let between = pick (allowed_between_cr j.answer) c.crstart M.Absent in
+      let between = pick (allowed_between_cr j.answer) c.crstart None in
       record {
         firstresponse =
             pick_within (is_response j.answer) (first_recorded c.firstresponse (at j.day)) c.firstresponse (first_within c.firstresponse h.firstresponse)
             h.firstresponse;
         crstart =
             pick_within (is_cr j.answer) after between (first_within c.crstart h.crstart)
-            (pick_within (allowed_between_cr j.answer) c.crstart M.Absent h.crstart tt);
+            (pick_within (allowed_between_cr j.answer) c.crstart None h.crstart tt);
       }

@@ -1,9 +1,8 @@
 -- Document 01, "Where a call stops": 12 in its own numbers; proved in proofs/RangeLaws.antt.
 -- Assumes nothing.
-use Rattle.std.specs.Prelude.{◌≡◌, true, ◌↔◌, ℕ, ◌≤◌}
+use Rattle.std.specs.Prelude.{◌≡◌, true, ◌↔◌, ℕ, ◌≤◌, Option, Some, None}
 use Rattle.dates.specs.Calendar.{date_exists}
-use Rattle.outcome_rules.specs.declared.MaybeDay.{MaybeDay}
-use Rattle.outcome_rules.specs.declared.MaybeDay.TheVariants as M
+use Rattle.dates.specs.declared.StudyDay.{StudyDay}
 use Rattle.subject.specs.declared.EventDays.{EventDays}
 use Rattle.subject.specs.declared.CountingVisits.{CountingVisits}
 use Rattle.subject.specs.declared.Enrolment.{Enrolment}
@@ -14,9 +13,9 @@ use Rattle.subject.specs.Range.{in_range}
 abbrev pub Within : ℕ → Type 0
 Within d = (1 ≤ d) × (d ≤ 40177)
 
-abbrev pub AbsentOrWithin : MaybeDay → Type 0
-AbsentOrWithin M.Absent = Unit {0}
-AbsentOrWithin (M.On d) = Within d.0
+abbrev pub AbsentOrWithin : Option StudyDay → Type 0
+AbsentOrWithin None = Unit {0}
+AbsentOrWithin (Some d) = Within d.0
 
 pub record EventWithin (e : EventDays) : Type 0 where
   pub lastvisit : Within e.lastvisit.0

@@ -1,12 +1,10 @@
 -- Document 01, "Outcome": what one visit more makes of what is held for PFS, best response and duration.
 -- Assumes nothing.
-use Rattle.std.specs.Prelude.{leb}
+use Rattle.std.specs.Prelude.{leb, Option, Some, None}
 use Rattle.laws.specs.Choice.{both, pick}
 use Rattle.dates.specs.declared.StudyDay.{StudyDay}
 use Rattle.response_rules.specs.Words.{Word, CR, PR, SD, PD, NE, NA, NN}
 use Rattle.response_rules.specs.OverallAnswer.{is_pd, evaluable}
-use Rattle.outcome_rules.specs.declared.MaybeDay.{MaybeDay}
-use Rattle.outcome_rules.specs.declared.MaybeDay.TheVariants as M
 use Rattle.outcome_rules.specs.Values.{is_recorded, day_value}
 use Rattle.outcome_rules.specs.Course.{Judged}
 use Rattle.outcome_rules.specs.declared.BestResponse.{BestResponse}
@@ -18,15 +16,15 @@ use Rattle.subject.specs.declared.CountingVisits.{CountingVisits}
 
 -- an evaluable visit before the event
 abbrev pub evaluable_on : StudyDay → EventDays
-evaluable_on d = record { progression = M.Absent; lastvisit = d; lastevaluable = M.On d }
+evaluable_on d = record { progression = None; lastvisit = d; lastevaluable = Some d }
 
 -- the first PD is the progression, and any visit before it is v and, where evaluable, the last evaluable one
 unfoldable pub event_after : EventDays → Judged → EventDays
 event_after e j =
     pick (is_recorded (day_value e.progression)) e
-    (pick (is_pd j.answer) (record { progression = M.On (at j.day); lastvisit = e.lastvisit; lastevaluable = e.lastevaluable })
+    (pick (is_pd j.answer) (record { progression = Some (at j.day); lastvisit = e.lastvisit; lastevaluable = e.lastevaluable })
     (pick (evaluable j.answer) (evaluable_on (at j.day))
-    (record { progression = M.Absent; lastvisit = at j.day; lastevaluable = e.lastevaluable })))
+    (record { progression = None; lastvisit = at j.day; lastevaluable = e.lastevaluable })))
 
 -- the word of a best response as it is held; no best response is NA or NN
 abbrev pub best_from : Word → BestResponse
@@ -66,11 +64,11 @@ best_shown c j =
     (both (is_stable_or_better j.answer) (leb stable_disease_from j.day)) (is_pd j.answer)
 
 -- the first CR or PR, and the first CR since which every visit was CR or NE
-abbrev pub first_response_after : MaybeDay → Judged → MaybeDay
+abbrev pub first_response_after : Option StudyDay → Judged → Option StudyDay
 first_response_after first j = pick (is_response j.answer) (first_recorded first (at j.day)) first
 
-abbrev pub cr_start_after : MaybeDay → Judged → MaybeDay
-cr_start_after start j = pick (is_cr j.answer) (first_recorded start (at j.day)) (pick (allowed_between_cr j.answer) start M.Absent)
+abbrev pub cr_start_after : Option StudyDay → Judged → Option StudyDay
+cr_start_after start j = pick (is_cr j.answer) (first_recorded start (at j.day)) (pick (allowed_between_cr j.answer) start None)
 
 unfoldable pub counting_after : CountingVisits → Judged → CountingVisits
 counting_after c j =

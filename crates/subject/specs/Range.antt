@@ -1,12 +1,11 @@
 -- Document 01, "Where a call stops", 12: which held subjects are in range.
 -- Assumes nothing.
-use Rattle.std.specs.Prelude.{ℕ, ◌*◌, Bool, true, leb}
+use Rattle.std.specs.Prelude.{ℕ, ◌*◌, Bool, true, leb, Option, Some, None}
 use Rattle.laws.specs.Choice.{both}
 use Rattle.dates.specs.Calendar.{last_day_number, date_exists}
 use Rattle.records.specs.Refusals.{most_targets, largest_size}
 use Rattle.records.specs.Forms.{new_unit}
-use Rattle.outcome_rules.specs.declared.MaybeDay.{MaybeDay}
-use Rattle.outcome_rules.specs.declared.MaybeDay.TheVariants as M
+use Rattle.dates.specs.declared.StudyDay.{StudyDay}
 use Rattle.subject.specs.declared.EventDays.{EventDays}
 use Rattle.subject.specs.declared.CountingVisits.{CountingVisits}
 use Rattle.subject.specs.declared.Enrolment.{Enrolment}
@@ -21,9 +20,9 @@ abbrev pub day_in_range : ℕ → Bool
 day_in_range d = both (leb first_day d) (leb d last_day_number)
 
 -- a day that is absent has its own mark
-abbrev pub maybe_in_range : MaybeDay → Bool
-maybe_in_range M.Absent = true
-maybe_in_range (M.On d) = day_in_range d.0
+abbrev pub maybe_in_range : Option StudyDay → Bool
+maybe_in_range None = true
+maybe_in_range (Some d) = day_in_range d.0
 
 -- 25,000
 abbrev pub largest_sum : ℕ

@@ -2,8 +2,13 @@
 // call stops", 1 to 5, 7 and 12). That what is held follows the list of the records is proved here.
 #![tactic(auto)]
 
+ghost use Rattle.std.specs.Prelude.{◌≡◌, Err};
+ghost use Rattle.codec.specs.Reading.{read_number};
+ghost use Rattle.subject.specs.Opening.{open_number};
+
+use codec::ReadRefusal;
 use dates::{Date, StudyDay};
-use outcome_rules::{BestResponse, MaybeDay};
+use outcome_rules::BestResponse;
 use records::OwnRefusal;
 use response_rules::{BaselineDisease, Earlier};
 
@@ -19,20 +24,20 @@ pub use visits::{counting_after, event_after};
 // What progression-free survival is read from, beside the day of death.
 #[derive(Clone, Copy)]
 pub struct EventDays {
-    pub progression: MaybeDay,
+    pub progression: Option<StudyDay>,
     // The last visit recorded before the event, evaluable or not, or day 1.
     pub lastvisit: StudyDay,
     // The last evaluable visit before the event.
-    pub lastevaluable: MaybeDay,
+    pub lastevaluable: Option<StudyDay>,
 }
 
 // What the counting visits show.
 #[derive(Clone, Copy)]
 pub struct CountingVisits {
     // The first CR or PR.
-    pub firstresponse: MaybeDay,
+    pub firstresponse: Option<StudyDay>,
     // The first CR since which every one was CR or NE.
-    pub crstart: MaybeDay,
+    pub crstart: Option<StudyDay>,
     pub best: BestResponse,
 }
 
@@ -52,7 +57,7 @@ pub struct FollowUp {
     // The day of the last record, or day 1.
     pub latestday: StudyDay,
     pub therapyrecorded: bool,
-    pub deathday: MaybeDay,
+    pub deathday: Option<StudyDay>,
     pub event: EventDays,
     pub counting: CountingVisits,
 }
@@ -64,18 +69,29 @@ pub struct Subject {
 }
 
 #[derive(Clone, Copy)]
-pub enum OpenAnswer {
-    Done,
+pub enum OpenRefusal {
     // This and the next from bytes alone.
     WrongLength,
     NoSuchKind,
-    Refused(OwnRefusal),
+    Own(OwnRefusal),
     NotBaseline,
 }
 
-// The subject opened; beside a refusal one fixed blank, which adding and reading refuse.
+impl From<ReadRefusal> for OpenRefusal {
+    ghost from_gives = { λ read refusal. open_number (Err refusal) ≡ read_number (Err read) };
+
+    fn from(read: ReadRefusal) -> OpenRefusal {
+        match read {
+            ReadRefusal::WrongLength => OpenRefusal::WrongLength,
+            ReadRefusal::NoSuchKind => OpenRefusal::NoSuchKind,
+            ReadRefusal::Own(own) => OpenRefusal::Own(own),
+        }
+    }
+}
+
+// The subject opened; beside a refusal one fixed blank, which adding and reading refuse and `Opens` promises, so that this is no Result of a subject.
 #[derive(Clone, Copy)]
 pub struct OpenResult {
     pub subject: Subject,
-    pub answer: OpenAnswer,
+    pub answer: Result<(), OpenRefusal>,
 }

@@ -1,24 +1,23 @@
 // Opening a subject with a baseline, from a record or from its bytes, and the blank that stands beside a refusal.
-ghost use Rattle.std.specs.Prelude.{◌≡◌};
+ghost use Rattle.std.specs.Prelude.{◌≡◌, Err};
 ghost use Rattle.subject.specs.Opening.{no_visits, no_counting_visits, subject_of_baseline, blank_subject, open_number, OpensChecked, Opens, OpensBytes};
 
-use super::{CountingVisits, Enrolment, EventDays, FollowUp, OpenAnswer, OpenResult, Subject};
-use codec::ReadAnswer;
+use super::{CountingVisits, Enrolment, EventDays, FollowUp, OpenRefusal, OpenResult, Subject};
 use dates::{Date, StudyDay};
-use outcome_rules::{BestResponse, MaybeDay};
-use records::{BaselineEntry, CheckAnswer, Entry, Record};
+use outcome_rules::BestResponse;
+use records::{BaselineEntry, Entry, Record};
 use response_rules::{BaselineDisease, Earlier};
 
 // The number in document 01; 0 where a subject was opened.
-pub fn open_number(answer: OpenAnswer) -> u8
+pub fn open_number(answer: Result<(), OpenRefusal>) -> u8
     ensures { result ≡ open_number answer }
 {
     match answer {
-        OpenAnswer::Done => 0,
-        OpenAnswer::WrongLength => 1,
-        OpenAnswer::NoSuchKind => 2,
-        OpenAnswer::Refused(own) => records::own_number(own),
-        OpenAnswer::NotBaseline => 7,
+        Ok(()) => 0,
+        Err(OpenRefusal::WrongLength) => 1,
+        Err(OpenRefusal::NoSuchKind) => 2,
+        Err(OpenRefusal::Own(own)) => records::own_number(own),
+        Err(OpenRefusal::NotBaseline) => 7,
     }
 }
 
@@ -26,9 +25,9 @@ fn no_visits(day: StudyDay) -> EventDays
     ensures { result ≡ no_visits day }
 {
     EventDays {
-        progression: MaybeDay::Absent,
+        progression: None,
         lastvisit: day,
-        lastevaluable: MaybeDay::Absent,
+        lastevaluable: None,
     }
 }
 
@@ -36,8 +35,8 @@ fn no_counting_visits() -> CountingVisits
     ensures { result ≡ no_counting_visits }
 {
     CountingVisits {
-        firstresponse: MaybeDay::Absent,
-        crstart: MaybeDay::Absent,
+        firstresponse: None,
+        crstart: None,
         best: BestResponse::NE,
     }
 }
@@ -45,36 +44,29 @@ fn no_counting_visits() -> CountingVisits
 fn subject_of_baseline(entry: BaselineEntry, nodes: [bool; 5], sizes: [u16; 5]) -> Subject
     ensures { result ≡ subject_of_baseline entry nodes sizes }
 {
-    let date = entry.date;
     let judged = response::judge_baseline(entry, nodes, sizes);
-    let disease = judged.disease;
-    let after = judged.after;
-    let event = no_visits(StudyDay(1));
-    let counting = no_counting_visits();
     let enrolment = Enrolment {
-        randomisation: date,
+        randomisation: entry.date,
         nontarget: entry.nontarget,
-        disease: disease,
+        disease: judged.disease,
     };
     let followup = FollowUp {
-        earlier: after,
+        earlier: judged.after,
         latestday: StudyDay(1),
         therapyrecorded: false,
-        deathday: MaybeDay::Absent,
-        event: event,
-        counting: counting,
+        deathday: None,
+        event: no_visits(StudyDay(1)),
+        counting: no_counting_visits(),
     };
     Subject {
-        enrolment: enrolment,
-        followup: followup,
+        enrolment,
+        followup,
     }
 }
 
 fn blank_subject() -> Subject
     ensures { result ≡ blank_subject }
 {
-    let event = no_visits(StudyDay(0));
-    let counting = no_counting_visits();
     let enrolment = Enrolment {
         randomisation: Date {
             year: 0,
@@ -93,23 +85,22 @@ fn blank_subject() -> Subject
         earlier: Earlier { nadir: 0 },
         latestday: StudyDay(0),
         therapyrecorded: false,
-        deathday: MaybeDay::Absent,
-        event: event,
-        counting: counting,
+        deathday: None,
+        event: no_visits(StudyDay(0)),
+        counting: no_counting_visits(),
     };
     Subject {
-        enrolment: enrolment,
-        followup: followup,
+        enrolment,
+        followup,
     }
 }
 
-fn refused(answer: OpenAnswer) -> OpenResult
-    ensures { (result.answer ≡ answer) × (result.subject ≡ blank_subject) }
+fn refused(refusal: OpenRefusal) -> OpenResult
+    ensures { (result.answer ≡ Err refusal) × (result.subject ≡ blank_subject) }
 {
-    let subject = blank_subject();
     OpenResult {
-        subject: subject,
-        answer: answer,
+        subject: blank_subject(),
+        answer: Err(refusal),
     }
 }
 
@@ -118,28 +109,20 @@ fn open_checked(entry: Entry, marks: [bool; 5], sizes: [u16; 5]) -> OpenResult
     ensures { OpensChecked entry marks sizes result.answer result.subject }
 {
     match entry {
-        Entry::Baseline(b) => {
-            let subject = subject_of_baseline(b, marks, sizes);
-            OpenResult {
-                subject: subject,
-                answer: OpenAnswer::Done,
-            }
-        }
-        Entry::Visit(_) => refused(OpenAnswer::NotBaseline),
-        Entry::Therapy(_) => refused(OpenAnswer::NotBaseline),
-        Entry::Death(_) => refused(OpenAnswer::NotBaseline),
+        Entry::Baseline(b) => OpenResult {
+            subject: subject_of_baseline(b, marks, sizes),
+            answer: Ok(()),
+        },
+        Entry::Visit(_) | Entry::Therapy(_) | Entry::Death(_) => refused(OpenRefusal::NotBaseline),
     }
 }
 
 pub fn open_subject(r: Record) -> OpenResult
     ensures { Opens r result.answer result.subject }
 {
-    let entry = r.entry;
-    let marks = r.marks;
-    let sizes = r.sizes;
     match records::check(r) {
-        CheckAnswer::Refused(own) => refused(OpenAnswer::Refused(own)),
-        CheckAnswer::Passed => open_checked(entry, marks, sizes),
+        Ok(()) => open_checked(r.entry, r.marks, r.sizes),
+        Err(own) => refused(OpenRefusal::Own(own)),
     }
 }
 
@@ -148,15 +131,9 @@ pub fn open_bytes(bytes: &[u8]) -> OpenResult
     ensures { OpensBytes bytes.now result.answer result.subject }
 {
     let read = codec::read(bytes);
-    let answer = read.answer;
     let found = read.found;
-    let entry = found.entry;
-    let marks = found.marks;
-    let sizes = found.sizes;
-    match answer {
-        ReadAnswer::Done => open_checked(entry, marks, sizes),
-        ReadAnswer::WrongLength => refused(OpenAnswer::WrongLength),
-        ReadAnswer::NoSuchKind => refused(OpenAnswer::NoSuchKind),
-        ReadAnswer::Refused(own) => refused(OpenAnswer::Refused(own)),
+    match read.answer {
+        Ok(()) => open_checked(found.entry, found.marks, found.sizes),
+        Err(refusal) => refused(OpenRefusal::from(refusal)),
     }
 }

@@ -4,7 +4,6 @@ ghost use Rattle.subject.specs.Range.{day_in_range, maybe_in_range, event_in_ran
 
 use super::{CountingVisits, Enrolment, EventDays, FollowUp};
 use dates::StudyDay;
-use outcome_rules::MaybeDay;
 use records::{LARGEST_SIZE, MOST_TARGETS};
 
 // The randomisation's day is the first.
@@ -21,45 +20,45 @@ fn day_in_range(day: StudyDay) -> bool
     FIRST_DAY <= day.0 && day.0 <= LAST_DAY
 }
 
-fn maybe_in_range(day: MaybeDay) -> bool
+fn maybe_in_range(day: Option<StudyDay>) -> bool
     ensures { result ≡ maybe_in_range day }
 {
     match day {
-        MaybeDay::Absent => true,
-        MaybeDay::On(d) => day_in_range(d),
+        None => true,
+        Some(d) => day_in_range(d),
     }
 }
 
 fn event_in_range(event: EventDays) -> bool
     ensures { result ≡ event_in_range event }
 {
-    let progression = event.progression;
-    let evaluable = event.lastevaluable;
-    day_in_range(event.lastvisit) && (maybe_in_range(progression) && maybe_in_range(evaluable))
+    day_in_range(event.lastvisit)
+        && maybe_in_range(event.progression)
+        && maybe_in_range(event.lastevaluable)
 }
 
 fn counting_in_range(counting: CountingVisits) -> bool
     ensures { result ≡ counting_in_range counting }
 {
-    let first = counting.firstresponse;
-    let start = counting.crstart;
-    maybe_in_range(first) && maybe_in_range(start)
+    maybe_in_range(counting.firstresponse) && maybe_in_range(counting.crstart)
 }
 
+#[tactic(auto, unfolding(crate::specs::Range::enrolment_in_range))]
 pub fn enrolment_in_range(e: Enrolment) -> bool
     ensures { result ≡ enrolment_in_range e }
 {
     dates::date_exists(e.randomisation)
-        && (e.disease.count <= MOST_TARGETS && e.disease.baselinesum <= LARGEST_SUM)
+        && e.disease.count <= MOST_TARGETS
+        && e.disease.baselinesum <= LARGEST_SUM
 }
 
+#[tactic(auto, unfolding(crate::specs::Range::follow_up_in_range))]
 pub fn followup_in_range(f: FollowUp) -> bool
     ensures { result ≡ follow_up_in_range f }
 {
-    let death = f.deathday;
-    let event = f.event;
-    let counting = f.counting;
     f.earlier.nadir <= LARGEST_SUM
-        && (day_in_range(f.latestday)
-            && (maybe_in_range(death) && (event_in_range(event) && counting_in_range(counting))))
+        && day_in_range(f.latestday)
+        && maybe_in_range(f.deathday)
+        && event_in_range(f.event)
+        && counting_in_range(f.counting)
 }

@@ -6,8 +6,8 @@ ghost use Rattle.subject.specs.OneVisitMore.{evaluable_on, event_after, best_fro
 use super::days::{confirmed_on, first_recorded};
 use super::{CountingVisits, EventDays};
 use dates::StudyDay;
-use outcome_rules::{BestResponse, JudgedVisit, MaybeDay};
-use outcome_values::{best_of, is_recorded};
+use outcome_rules::{BestResponse, JudgedVisit};
+use outcome_values::best_of;
 use response_rules::OverallAnswer;
 
 // The day from which SD is a best response.
@@ -17,69 +17,37 @@ fn evaluable_on(visit: StudyDay) -> EventDays
     ensures { result ≡ evaluable_on visit }
 {
     EventDays {
-        progression: MaybeDay::Absent,
+        progression: None,
         lastvisit: visit,
-        lastevaluable: MaybeDay::On(visit),
+        lastevaluable: Some(visit),
     }
 }
 
+#[tactic(auto, unfolding(crate::specs::OneVisitMore::event_after))]
 pub fn event_after(event: EventDays, visit: JudgedVisit) -> EventDays
     ensures { result ≡ event_after event (judged_values visit) }
 {
-    let progression = event.progression;
-    if is_recorded(progression) {
+    if event.progression.is_some() {
         return event;
     }
-    let day = visit.day;
-    let answer = visit.answer;
-    let previous = event.lastvisit;
-    let evaluable = event.lastevaluable;
-    match answer {
+    match visit.answer {
         OverallAnswer::PD => EventDays {
-            progression: MaybeDay::On(day),
-            lastvisit: previous,
-            lastevaluable: evaluable,
+            progression: Some(visit.day),
+            ..event
         },
         OverallAnswer::NE => EventDays {
-            progression: MaybeDay::Absent,
-            lastvisit: day,
-            lastevaluable: evaluable,
+            lastvisit: visit.day,
+            ..event
         },
-        OverallAnswer::CR => evaluable_on(day),
-        OverallAnswer::PR => evaluable_on(day),
-        OverallAnswer::SD => evaluable_on(day),
+        OverallAnswer::CR | OverallAnswer::PR | OverallAnswer::SD => evaluable_on(visit.day),
     }
 }
 
-// The first of two in the order of document 01.
+// The first of two in the order of document 01, in which the answers are declared.
 fn better_of(a: BestResponse, b: BestResponse) -> BestResponse
     ensures { result ≡ better_of a b }
 {
-    match a {
-        BestResponse::CR => BestResponse::CR,
-        BestResponse::PR => match b {
-            BestResponse::CR => BestResponse::CR,
-            BestResponse::PR => BestResponse::PR,
-            BestResponse::SD => BestResponse::PR,
-            BestResponse::PD => BestResponse::PR,
-            BestResponse::NE => BestResponse::PR,
-        },
-        BestResponse::SD => match b {
-            BestResponse::CR => BestResponse::CR,
-            BestResponse::PR => BestResponse::PR,
-            BestResponse::SD => BestResponse::SD,
-            BestResponse::PD => BestResponse::SD,
-            BestResponse::NE => BestResponse::SD,
-        },
-        BestResponse::PD => match b {
-            BestResponse::CR => BestResponse::CR,
-            BestResponse::PR => BestResponse::PR,
-            BestResponse::SD => BestResponse::SD,
-            BestResponse::PD => BestResponse::PD,
-            BestResponse::NE => BestResponse::PD,
-        },
-        BestResponse::NE => b,
-    }
+    a.min(b)
 }
 
 // What a counting visit shows with those before it.
@@ -87,62 +55,48 @@ fn best_shown(c: CountingVisits, visit: JudgedVisit) -> BestResponse
     ensures { result ≡ best_from (best_shown c (judged_values visit)) }
 {
     let day = visit.day;
-    let answer = visit.answer;
-    let first = c.firstresponse;
-    let start = c.crstart;
     let late = STABLE_DISEASE_FROM <= day.0;
-    match answer {
+    match visit.answer {
         OverallAnswer::CR => best_of(
-            confirmed_on(start, day),
-            confirmed_on(first, day),
+            confirmed_on(c.crstart, day),
+            confirmed_on(c.firstresponse, day),
             late,
             false,
         ),
-        OverallAnswer::PR => best_of(false, confirmed_on(first, day), late, false),
+        OverallAnswer::PR => best_of(false, confirmed_on(c.firstresponse, day), late, false),
         OverallAnswer::SD => best_of(false, false, late, false),
         OverallAnswer::PD => BestResponse::PD,
         OverallAnswer::NE => BestResponse::NE,
     }
 }
 
-fn first_response_after(first: MaybeDay, visit: JudgedVisit) -> MaybeDay
+fn first_response_after(first: Option<StudyDay>, visit: JudgedVisit) -> Option<StudyDay>
     ensures { result ≡ first_response_after first (judged_values visit) }
 {
-    let day = visit.day;
-    let answer = visit.answer;
-    match answer {
-        OverallAnswer::CR => first_recorded(first, day),
-        OverallAnswer::PR => first_recorded(first, day),
-        OverallAnswer::SD => first,
-        OverallAnswer::PD => first,
-        OverallAnswer::NE => first,
+    match visit.answer {
+        OverallAnswer::CR | OverallAnswer::PR => first_recorded(first, visit.day),
+        OverallAnswer::SD | OverallAnswer::PD | OverallAnswer::NE => first,
     }
 }
 
-fn cr_start_after(start: MaybeDay, visit: JudgedVisit) -> MaybeDay
+fn cr_start_after(start: Option<StudyDay>, visit: JudgedVisit) -> Option<StudyDay>
     ensures { result ≡ cr_start_after start (judged_values visit) }
 {
-    let day = visit.day;
-    let answer = visit.answer;
-    match answer {
-        OverallAnswer::CR => first_recorded(start, day),
-        OverallAnswer::PR => MaybeDay::Absent,
-        OverallAnswer::SD => MaybeDay::Absent,
-        OverallAnswer::PD => MaybeDay::Absent,
+    match visit.answer {
+        OverallAnswer::CR => first_recorded(start, visit.day),
         OverallAnswer::NE => start,
+        OverallAnswer::PR | OverallAnswer::SD | OverallAnswer::PD => None,
     }
 }
 
+#[tactic(auto, unfolding(crate::specs::OneVisitMore::counting_after))]
 pub fn counting_after(c: CountingVisits, visit: JudgedVisit) -> CountingVisits
     ensures { result ≡ counting_after c (judged_values visit) }
 {
-    let first = c.firstresponse;
-    let start = c.crstart;
-    let best = c.best;
     let shown = best_shown(c, visit);
     CountingVisits {
-        firstresponse: first_response_after(first, visit),
-        crstart: cr_start_after(start, visit),
-        best: better_of(best, shown),
+        firstresponse: first_response_after(c.firstresponse, visit),
+        crstart: cr_start_after(c.crstart, visit),
+        best: better_of(c.best, shown),
     }
 }

@@ -16,12 +16,13 @@ use Rattle.codec.specs.Reading.{baseline_in, raw_in, refusals_of_record_number, 
 use Rattle.codec.proofs.NoRefusalOfBytes.{found_fine}
 use Rattle.writing.specs.Writing.{write_number, refusal_of_writing, output_of, Writes}
 use Rattle.writing.specs.Laws.{RoundTrips}
-use Rattle.writing.specs.declared.WriteAnswer.{WriteAnswer}
+use Rattle.writing.specs.declared.WriteRefusal.{WriteRefusal}
+use Rattle.std.specs.Prelude.{Result}
 use Rattle.writing.proofs.ReadBack.{no_refusal_back, record_back}
 use Rattle.writing.proofs.WrittenBack.{bytes_back}
 
 -- a record that no refusal meets, written where there is room
-module _ (r : Record) (out last : List ℕ) (a : WriteAnswer) (fine : refusal_of_record new_unit r ≡ 0) (room : record_length ≤ length out) (w : Writes r out a last) where
+module _ (r : Record) (out last : List ℕ) (a : Result (Unit {0}) WriteRefusal) (fine : refusal_of_record new_unit r ≡ 0) (room : record_length ≤ length out) (w : Writes r out a last) where
   not_refused : refusal_of_writing r out ≡ 0
   unfolding refusal_of_writing
   not_refused = (none_after_own new_unit r _).1 (fine, rw (le-ltb (length out) record_length room))

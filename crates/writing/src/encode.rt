@@ -46,9 +46,10 @@ const VISIT_CUT: u64 = 1 << 6;
 fn bit_of(b: bool) -> u64
     ensures { (result ≡ bit b) × (result ≤ 1) }
 {
-    if b { 1 } else { 0 }
+    b as u64
 }
 
+// A `match`, since an enum whose cases carry structs has no number to cast.
 fn kind_number(entry: Entry) -> u32
     ensures { (result ≡ kind_number entry) × (result ≤ 4) }
 {
@@ -63,13 +64,7 @@ fn kind_number(entry: Entry) -> u32
 fn status_number(status: Status) -> u64
     ensures { (result ≡ status_number status) × (result ≤ 4) }
 {
-    match status {
-        Status::NA => 0,
-        Status::CR => 1,
-        Status::NN => 2,
-        Status::PD => 3,
-        Status::NE => 4,
-    }
+    status as u64
 }
 
 // Kind and date, 24 bits.
@@ -118,21 +113,15 @@ pub(crate) fn high_number(entry: Entry, marks: [bool; 5], sizes: [u16; 5]) -> u6
     let first = first_targets(marks, sizes);
     match entry {
         Entry::Baseline(b) => {
-            let assessed = bit_of(b.assessed);
-            let nontarget = bit_of(b.nontarget);
-            assessed * ASSESSED
-                + nontarget * NONTARGET
+            bit_of(b.assessed) * ASSESSED
+                + bit_of(b.nontarget) * NONTARGET
                 + b.count as u64 * COUNT
                 + first / BASELINE_CUT
         }
         Entry::Visit(v) => {
-            let status = v.status;
-            let number = status_number(status);
-            let newlesion = bit_of(v.newlesion);
-            number * STATUS + newlesion * NEW_LESION + first / VISIT_CUT
+            status_number(v.status) * STATUS + bit_of(v.newlesion) * NEW_LESION + first / VISIT_CUT
         }
-        Entry::Therapy(_) => 0,
-        Entry::Death(_) => 0,
+        Entry::Therapy(_) | Entry::Death(_) => 0,
     }
 }
 
@@ -146,8 +135,7 @@ pub(crate) fn low_number(entry: Entry, marks: [bool; 5], sizes: [u16; 5]) -> u64
     match entry {
         Entry::Baseline(_) => first % BASELINE_CUT * BASELINE_FIRST + last * BASELINE_LAST,
         Entry::Visit(_) => first % VISIT_CUT * VISIT_FIRST + last * VISIT_LAST,
-        Entry::Therapy(_) => 0,
-        Entry::Death(_) => 0,
+        Entry::Therapy(_) | Entry::Death(_) => 0,
     }
 }
 
@@ -156,17 +144,7 @@ pub(crate) fn store(head: u32, high: u64, low: u64, out: &mut [u8])
     requires { record_length ≤ length out.old }
     ensures { out.new ≡ (unpack (bytes 3) head ++ (unpack (bytes 5) high ++ unpack (bytes 5) low)) ++ drop record_length out.old }
 {
-    out[0] = ((head >> 16) % 256) as u8;
-    out[1] = ((head >> 8) % 256) as u8;
-    out[2] = (head % 256) as u8;
-    out[3] = ((high >> 32) % 256) as u8;
-    out[4] = ((high >> 24) % 256) as u8;
-    out[5] = ((high >> 16) % 256) as u8;
-    out[6] = ((high >> 8) % 256) as u8;
-    out[7] = (high % 256) as u8;
-    out[8] = ((low >> 32) % 256) as u8;
-    out[9] = ((low >> 24) % 256) as u8;
-    out[10] = ((low >> 16) % 256) as u8;
-    out[11] = ((low >> 8) % 256) as u8;
-    out[12] = (low % 256) as u8;
+    out[..3].copy_from_slice(&head.to_be_bytes()[1..]);
+    out[3..8].copy_from_slice(&high.to_be_bytes()[3..]);
+    out[8..13].copy_from_slice(&low.to_be_bytes()[3..]);
 }

@@ -2,37 +2,39 @@
 // each other is proved here.
 #![tactic(auto)]
 
+ghost use Rattle.std.specs.Prelude.{◌≡◌};
 ghost use Rattle.writing.specs.Writing.{Writes};
+ghost use Rattle.writing.specs.declared.WriteRefusal.TheVariants as WriteRefusal;
 
 use codec::RECORD_LENGTH;
-use records::{CheckAnswer, OwnRefusal, Record};
+use records::{OwnRefusal, Record};
 
 mod encode; // encode.rt: a record that no refusal meets to bytes
 
 #[derive(Clone, Copy)]
-pub enum WriteAnswer {
-    Done,
-    Refused(OwnRefusal),
+pub enum WriteRefusal {
+    Own(OwnRefusal),
     ShortOutput,
 }
 
-pub fn write(r: Record, out: &mut [u8]) -> WriteAnswer
+impl From<OwnRefusal> for WriteRefusal {
+    ghost from_gives = { λ own refusal. refusal ≡ WriteRefusal.Own own };
+
+    fn from(own: OwnRefusal) -> WriteRefusal {
+        WriteRefusal::Own(own)
+    }
+}
+
+pub fn write(r: Record, out: &mut [u8]) -> Result<(), WriteRefusal>
     ensures { Writes r out.old result out.new }
 {
-    match records::check(r) {
-        CheckAnswer::Refused(own) => WriteAnswer::Refused(own),
-        CheckAnswer::Passed => {
-            if out.len() < RECORD_LENGTH {
-                return WriteAnswer::ShortOutput;
-            }
-            let entry = r.entry;
-            let marks = r.marks;
-            let sizes = r.sizes;
-            let head = encode::head_number(entry);
-            let high = encode::high_number(entry, marks, sizes);
-            let low = encode::low_number(entry, marks, sizes);
-            encode::store(head, high, low, out);
-            WriteAnswer::Done
-        }
+    records::check(r)?;
+    if out.len() < RECORD_LENGTH {
+        return Err(WriteRefusal::ShortOutput);
     }
+    let head = encode::head_number(r.entry);
+    let high = encode::high_number(r.entry, r.marks, r.sizes);
+    let low = encode::low_number(r.entry, r.marks, r.sizes);
+    encode::store(head, high, low, out);
+    Ok(())
 }

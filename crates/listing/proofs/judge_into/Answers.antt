@@ -1,9 +1,11 @@
 -- `listing::judge_into` meets its contract: the records before index k are taken, and their lines written.
 -- Assumes nothing.
-use mathlib.Core.Path.{refl, sym, ◌∙◌}
+use mathlib.Core.Path.{◌≡◌, refl, sym, ap, ◌∙◌}
 use native.Mathlib.Omega.{arith}
-use lib.ListN.{length}
+use Prim.Native.Nat.{◌+◌, ◌-◌, ◌*◌, ◌/◌}
+use lib.ListN.{length, take, drop, length-drop}
 use Rattle.codec.proofs.PartsJoined.{fair_length}
+use Rattle.file.proofs.ChunksAsParts.{whole_rest, chunk_is_part, left_behind, chunk_within}
 use Rattle.listing.proofs.TurnsOfLoop.{bad_into, first_into, turn_into, first_printing, next_writable, turn_printing, ended_into}
 use Rattle.listing.proofs.judge_into.Goals as goal
 use Rattle.records.specs.Forms.{new_form}
@@ -14,38 +16,76 @@ returns-then-bad_length c = bad_into _ _ _ _ _ (sym c.bad_length.ensures ∙ c.i
 pub slice_bounds-open_bytes-end : goal.slice_bounds-open_bytes-end
 slice_bounds-open_bytes-end c = let h = fair_length new_form (length c.args.bytes.now) (sym c.bad_length.ensures ∙ c.if-bad_length.false) in omega arith
 
-pub returns-then-unopened-ne0 : goal.returns-then-unopened-ne0
-returns-then-unopened-ne0 c = first_into _ _ _ _ _ (sym c.bad_length.ensures ∙ c.if-bad_length.false) refl _ _ _ c.open_bytes-first.ensures c.open_number-unopened.ensures c.if-unopened-ne0.true c.stopped-then-unopened-ne0.ensures
+pub returns-then-is_err : goal.returns-then-is_err
+returns-then-is_err c = first_into _ _ _ _ _ (sym c.bad_length.ensures ∙ c.if-bad_length.false) refl _ _ c.open_bytes-first.ensures (sym c.is_err.ensures.value ∙ c.if-is_err.true) (rw c.open_number.ensures at c.stopped-then-is_err.ensures)
 
 pub loop-k-init : goal.loop-k-init
-loop-k-init c = let h = fair_length new_form (length c.args.bytes.now) (sym c.bad_length.ensures ∙ c.if-bad_length.false) in (omega arith, omega arith, refl, h.2, refl, omega arith, first_printing _ _ (sym c.bad_length.ensures ∙ c.if-bad_length.false) _ _ _ c.open_bytes-first.ensures c.open_number-unopened.ensures c.if-unopened-ne0.false)
+loop-k-init c =
+    let h = fair_length new_form (length c.args.bytes.now) (sym c.bad_length.ensures ∙ c.if-bad_length.false) in
+    let e = c.enumerate-k-items.ensures in
+    let i = c.into_iter-k-iterator.ensures.into_iter_gives in
+    let n : c.into_iter-k-iterator.result.count ≡ 0 = rw i e.count in
+    rw n (
+      rw (i, e.source) c.chunks_exact.ensures.size,
+      rw (i, e.source) (c.chunks_exact.ensures.rest ∙ whole_rest c.args.bytes.now 13),
+      omega arith,
+      refl,
+      omega arith,
+      first_printing _ _ (sym c.bad_length.ensures ∙ c.if-bad_length.false) _ _ c.open_bytes-first.ensures (sym c.is_err.ensures.value ∙ c.if-is_err.false),
+    )
 
-pub shape_of-page-then-number-ne0 : goal.shape_of-page-then-number-ne0
-shape_of-page-then-number-ne0 c = c.loop-k.invariant.4
+pub shape_of-page-then-is_err-2 : goal.shape_of-page-then-is_err-2
+shape_of-page-then-is_err-2 c = c.loop-k.invariant.3
 
-pub returns-then-number-ne0 : goal.returns-then-number-ne0
-returns-then-number-ne0 c =
+pub returns-then-is_err-2 : goal.returns-then-is_err-2
+returns-then-is_err-2 c =
+    let h = fair_length new_form (length c.args.bytes.now) (sym c.bad_length.ensures ∙ c.if-bad_length.false) in
     let i = c.loop-k.invariant in
-    turn_into _ _ _ _ _ _ _ _ i.6 c.loop-k-test.true i.3 (omega (arith, i, c.loop-k-test.true)) _ _ _ c.add_bytes-addition.ensures c.add_number-number.ensures c.if-number-ne0.true c.stopped-then-number-ne0.ensures
+    let s = c.in-Some.ensures.steps in
+    let size = s.0.1.1 ∙ i.0 in
+    let part = chunk_is_part new_form _ _ _ _ (c.loop-k.k-iterator.count + 1) i.1 s.0.1.0 size in
+    let within = chunk_within new_form _ _ _ _ (c.loop-k.k-iterator.count + 1) i.1 s.0.1.0 size in
+    turn_into _ _ _ _ _ _ _ _ i.5 (omega (arith, within)) h.2 (omega (arith, i.2, i.4, h.2)) _ _ (rw part at c.add_bytes-addition.ensures) (sym c.is_err-in-loop-k.ensures.value ∙ c.if-is_err-2.true) (rw (c.add_number.ensures, s.1) at c.stopped-then-is_err-2.ensures)
 
 pub put_lines-at-requires : goal.put_lines-at-requires
-put_lines-at-requires c = ((next_writable _ _ _ _ _ _ c.loop-k.invariant.6 c.loop-k-test.true _ _ _ c.add_bytes-addition.ensures c.add_number-number.ensures c.if-number-ne0.false).0, let i = c.loop-k.invariant in let t = c.loop-k-test.true in let e = c.requires in omega (arith, i, t, e))
+put_lines-at-requires c =
+    let h = fair_length new_form (length c.args.bytes.now) (sym c.bad_length.ensures ∙ c.if-bad_length.false) in
+    let i = c.loop-k.invariant in
+    let s = c.in-Some.ensures.steps in
+    let size = s.0.1.1 ∙ i.0 in
+    let part = chunk_is_part new_form _ _ _ _ (c.loop-k.k-iterator.count + 1) i.1 s.0.1.0 size in
+    let within = chunk_within new_form _ _ _ _ (c.loop-k.k-iterator.count + 1) i.1 s.0.1.0 size in
+    let e = c.requires in
+    ((next_writable _ _ _ _ _ _ i.5 (omega (arith, within)) _ _ (rw part at c.add_bytes-addition.ensures) (sym c.is_err-in-loop-k.ensures.value ∙ c.if-is_err-2.false)).0, omega (arith, i.2, i.3, i.4, h.2, e))
 
 pub loop-k-preserved : goal.loop-k-preserved
 loop-k-preserved c =
-    let l = c.loop-k in
-    let n = next_writable _ _ _ _ _ _ l.invariant.6 c.loop-k-test.true _ _ _ c.add_bytes-addition.ensures c.add_number-number.ensures c.if-number-ne0.false in (
-      omega arith,
-      omega arith,
-      refl,
-      l.invariant.3,
-      c.put_lines-at.auto.page ∙ l.invariant.4,
-      omega (arith, n.1, c.put_lines-at.ensures.place, l.invariant),
-      turn_printing _ _ _ _ _ _ l.invariant.6 c.loop-k-test.true _ _ _ c.add_bytes-addition.ensures c.add_number-number.ensures c.if-number-ne0.false _ _ c.put_lines-at.ensures,
+    let i = c.loop-k.invariant in
+    let s = c.in-Some.ensures.steps in
+    let size = s.0.1.1 ∙ i.0 in
+    let part = chunk_is_part new_form _ _ _ _ (c.loop-k.k-iterator.count + 1) i.1 s.0.1.0 size in
+    let left = left_behind new_form _ _ _ _ (c.loop-k.k-iterator.count + 1) i.1 s.0.1.0 size in
+    let within = chunk_within new_form _ _ _ _ (c.loop-k.k-iterator.count + 1) i.1 s.0.1.0 size in
+    let added = rw part at c.add_bytes-addition.ensures in
+    let n = next_writable _ _ _ _ _ _ i.5 (omega (arith, within)) _ _ added (sym c.is_err-in-loop-k.ensures.value ∙ c.if-is_err-2.false) in
+    rw s.2 (
+      s.0.0 ∙ i.0,
+      left,
+      omega (arith, within),
+      c.put_lines-at.auto.page ∙ i.3,
+      omega (arith, n.1, c.put_lines-at.ensures.place, i.4),
+      turn_printing _ _ _ _ _ _ i.5 (omega (arith, within)) _ _ added (sym c.is_err-in-loop-k.ensures.value ∙ c.if-is_err-2.false) _ _ c.put_lines-at.ensures,
     )
 
 pub shape_of-page : goal.shape_of-page
-shape_of-page c = c.loop-k.invariant.4
+shape_of-page c = c.loop-k.invariant.3
 
 pub returns : goal.returns
-returns c = let i = c.loop-k.invariant in let t = c.loop-k-test.false in ended_into _ _ _ _ _ _ i.6 t (omega (arith, i)) (omega (arith, i)) _ c.end_file-answer.ensures
+returns c =
+    let h = fair_length new_form (length c.args.bytes.now) (sym c.bad_length.ensures ∙ c.if-bad_length.false) in
+    let i = c.loop-k.invariant in
+    let s = c.in-None.ensures.steps in
+    let left = ap length i.1 ∙ length-drop ((c.loop-k.k-iterator.count + 1) * 13) c.args.bytes.now in
+    let later = ap length (whole_rest c.args.bytes.now 13) ∙ length-drop 13 c.args.bytes.now in
+    let last : length (take (length c.args.bytes.now - 13) (drop 13 c.args.bytes.now)) / 13 ≡ c.loop-k.k-iterator.count + 1 - 1 = omega (arith, left, later, s.0.1.0, i.0, i.2) in
+    ended_into _ _ _ _ _ _ i.5 (omega (arith, left, s.0.1.0, i.0)) (omega (arith, i.2, h.2)) (omega (arith, i.2, i.4, h.2)) _ (rw last at c.end_file.ensures)

@@ -1,7 +1,8 @@
 -- `converter::placing::add_old` meets its contract.
 -- Assumes nothing.
-use Rattle.converter.proofs.PlacingReturns.{adds_old}
+use mathlib.Core.Path.{sym, ◌∙◌}
+use Rattle.converter.proofs.PlacingReturns.{add_unread}
 use Rattle.converter.proofs.placing.add_old.Goals as goal
 
-pub returns : goal.returns
-returns c = adds_old _ _ _ _ _ c.read_old-read.ensures c.read_number.ensures c.first_number.ensures _ _ _ c.added-added.ensures c.add_number.ensures
+pub returns-then-is_err : goal.returns-then-is_err
+returns-then-is_err c = add_unread _ _ c.read_old-read.ensures (sym c.is_err.ensures.value ∙ c.if-is_err.true) _ c.read_number.ensures _

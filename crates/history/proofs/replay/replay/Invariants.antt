@@ -1,14 +1,11 @@
 -- `history::replay::replay` meets its contract: the loop makes a list of calls, and demand 3 says what is read after it.
 -- Assumes nothing.
 use mathlib.Core.Path.{◌≡◌}
-use Prim.Native.Nat.{◌-◌, ◌/◌, ◌≤◌}
-use lib.ListN.{length}
+use lib.ListN.{drop}
 use Rattle.codec.specs.Bytes.{record_length}
 use Rattle.history.proofs.ReplayAsCalls.{Goes}
 use Rattle.history.proofs.replay.replay.Given as goal
 
-abbrev pub invariant-loop-k : goal.invariant-loop-k
-invariant-loop-k l = (1 ≤ l.k) × (l.k ≤ l.count) × (l.count ≡ length l.bytes / record_length) × Goes l.bytes l.count l.initial.subject l.subject l.k
-
-abbrev pub decreases-loop-k : goal.decreases-loop-k
-decreases-loop-k l = l.count - l.k
+abbrev pub invariant-loop-part : goal.invariant-loop-part
+invariant-loop-part g l =
+    (l.part-iterator.size ≡ record_length) × Goes (drop record_length l.bytes) l.initial.subject l.subject l.part-iterator.rest.now

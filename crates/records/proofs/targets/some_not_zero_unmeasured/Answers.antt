@@ -1,7 +1,8 @@
 -- `records::targets::some_not_zero_unmeasured` meets its contract.
 -- Assumes nothing.
-use mathlib.Core.Path.{◌∙◌}
+use Rattle.std.proofs.Common.{rules, ℕ}
+use Rattle.records.specs.Refusals.{not_zero_unmeasured}
 use Rattle.records.proofs.targets.some_not_zero_unmeasured.Goals as goal
 
 pub returns : goal.returns
-returns c = c.any_of_five.ensures ∙ rw (c.not_zero_unmeasured.ensures, c.not_zero_unmeasured-2.ensures, c.not_zero_unmeasured-3.ensures, c.not_zero_unmeasured-4.ensures, c.not_zero_unmeasured-5.ensures)
+returns c = c.some_target.ensures (λ (i : ℕ). not_zero_unmeasured) (λ i mark size r k. search rules)

@@ -3,7 +3,7 @@
 use mathlib.Core.Path.{refl}
 use mathlib.Core.List.{List, [], ◌∷◌}
 use Prim.Native.Nat.{ℕ}
-use Rattle.response.proofs.OverallReturns.{each_cell}
+use Rattle.response.proofs.GridCells.{each_cell}
 use Rattle.response.proofs.grid.code_at.Goals as goal
 
 -- the code's GRID

@@ -1,28 +1,33 @@
--- `response::targets::all_disappeared` meets its contract: the test of the first target is what the definition says of it; the others are found by the check.
+-- `response::targets::all_disappeared` meets its contract.
 -- Assumes nothing.
-use mathlib.Core.Path.{◌≡◌}
-use mathlib.Core.Bool.{Bool, false}
-use Prim.Native.Nat.{ℕ, ◌≤◌, ◌<◌}
+use Rattle.std.proofs.Common.{◌≡◌, refl, sym, ◌∙◌, ◌<◌, ℕ, Bool, true, false}
 use lib.Dec.{leb}
 use lib.ListN.{get_or}
-use borrow.Author.Tests.{le-leb, lt-leb}
-use Rattle.laws.specs.Choice.{either}
-use Rattle.laws.proofs.Tests.{both_with_false}
+use native.Mathlib.Omega.{arith}
+use borrow.Author.Tests.{lt-leb}
+use Rattle.laws.specs.Choice.{either, all}
+use Rattle.laws.proofs.Tests.{never}
+use Rattle.laws.proofs.EveryNumber.{all_at}
 use Rattle.records.specs.Forms.{new_unit}
 use Rattle.response_rules.specs.TargetAnswer.{disappeared, all_disappeared}
 use Rattle.response.proofs.targets.all_disappeared.Goals as goal
-use Rattle.response.proofs.targets.all_disappeared.Goals.{then-count-le0, else-count-le0}
 
-module _ (count i : ℕ) (g b : Bool) where
-  beyond : count ≤ i → b ≡ leb count i → either (leb count i) g ≡ b
-  beyond l e = rw (e, le-leb count i l)
+all_false : (f : ℕ → Bool) (n k : ℕ) → k < n → f k ≡ false → false ≡ all f n
+all_false f n k h q = go (all f n) refl
+  where
+    go : (b : Bool) → all f n ≡ b → false ≡ b
+    go true e = absurd (never (sym (all_at f n e k h) ∙ q))
+    go false e = refl
 
-  within : i < count → (r : Bool) → r ≡ g → b ≡ r → either (leb count i) g ≡ b
-  within l r re e = rw (e, re, lt-leb count i l)
-
-pub returns-else-has_disappeared : goal.returns-else-has_disappeared
+pub returns-then-not-has_disappeared : goal.returns-then-not-has_disappeared
 unfolding all_disappeared
-returns-else-has_disappeared c =
-    let first : either (leb c.args.count 0) (disappeared new_unit (get_or c.args.nodes 0 false) (get_or c.args.sizes 0 0)) ≡ c.if-count-le0.value =
-    elim c.if-count-le0.branch [ then-count-le0 w ↦ search beyond | else-count-le0 w ↦ search within ] in
-    rw (first, c.if-has_disappeared.false) (simp both_with_false)
+returns-then-not-has_disappeared c =
+    let i = c.loop-i.i in
+    let l : i < c.args.count = omega arith in
+    let q : either (leb c.args.count i) (disappeared new_unit (get_or c.args.nodes i false) (get_or c.args.sizes i 0)) ≡ false =
+    rw (lt-leb c.args.count i l, ← c.has_disappeared.ensures) c.if-not-has_disappeared.true in
+    all_false (λ (j : ℕ). either (leb c.args.count j) (disappeared new_unit (get_or c.args.nodes j false) (get_or c.args.sizes j 0))) 5 i (omega arith) q
+
+pub returns : goal.returns
+unfolding all_disappeared
+returns c = let e : c.loop-i.i ≡ 5 = omega arith in sym (rw e at c.loop-i.invariant)

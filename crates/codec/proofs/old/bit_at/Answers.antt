@@ -1,6 +1,0 @@
--- `codec::old::bit_at` meets its contract.
--- Assumes nothing.
-use Rattle.codec.proofs.old.bit_at.Goals as goal
-
-pub returns : goal.returns
-returns c = rw c.field.ensures

@@ -1,2 +1,0 @@
--- `conversions::print_bytes` meets its contract.
--- Assumes nothing.

@@ -1,8 +1,0 @@
--- `convert::main` meets its contract.
--- Assumes nothing.
-use mathlib.Core.Path.{sym}
-use lib.Seq.{length-take-le}
-use Rattle.convert.proofs.main.Goals as goal
-
-pub slice_bounds-print_converted-end : goal.slice_bounds-print_converted-end
-slice_bounds-print_converted-end c = sym (length-take-le c.read_input-read.result.count c.read_input-read.new.bytes c.read_input-read.ensures.within)
