@@ -7,6 +7,7 @@ ghost use Rattle.adding.specs.OneRecordMore.{judged_as, judged_added, on_later_d
 
 use dates::StudyDay;
 use outcome_rules::JudgedVisit;
+use outcome_values::is_recorded;
 use response::VisitAnswer;
 use subject::{CountingVisits, FollowUp, counting_after, event_after};
 
@@ -22,7 +23,7 @@ fn counting_unless(closed: bool, c: CountingVisits, visit: JudgedVisit) -> Count
 pub(crate) fn after_visit(f: FollowUp, day: StudyDay, judged: VisitAnswer) -> FollowUp
     ensures { result ≡ judged_added f judged.after (judged_as day judged) }
 {
-    let closed = f.therapyrecorded | f.event.progression.is_some();
+    let closed = f.therapyrecorded | is_recorded(f.event.progression);
     let visit = JudgedVisit {
         day,
         answer: judged.overall,

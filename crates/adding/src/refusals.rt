@@ -8,6 +8,7 @@ ghost use Rattle.adding.specs.Stepping.{refusal_of_step_held};
 use super::AddRefusal;
 use super::fitting::fits;
 use dates::StudyDay;
+use outcome_values::is_recorded;
 use records::VisitEntry;
 use subject::{Enrolment, FollowUp};
 
@@ -41,7 +42,7 @@ pub(crate) fn refusal_of_baseline(inside: bool, own: Result<(), AddRefusal>) -> 
 fn refusal_of_later(f: FollowUp, early: bool, misfit: bool) -> Result<(), AddRefusal>
     ensures { add_number result ≡ first (refusals_of_later_held f early misfit) }
 {
-    if f.deathday.is_some() {
+    if is_recorded(f.deathday) {
         return Err(AddRefusal::AfterDeath);
     }
     if early {

@@ -2,8 +2,15 @@
 // file writes nothing to standard output, and R with its number and the index of a record to standard error.
 #![tactic(auto)]
 
-use anyhow::{Result, bail, ensure};
+use anyhow::{Result, ensure};
+use file::FileRefusal;
 use input::End;
+use output::{Output, STANDARD_ERROR};
+use std::fmt::Write;
+
+fn print_refusal(r: FileRefusal) {
+    let _ = write!(Output(STANDARD_ERROR), "R {} {}\n", r.number, r.index);
+}
 
 fn print_converted(rt: &impl Print, old: &[u8]) -> Result<()> {
     let mut out = [0; 65536];
@@ -12,7 +19,7 @@ fn print_converted(rt: &impl Print, old: &[u8]) -> Result<()> {
             rt.write_all(&out[..n]).is_ok(),
             "convert: standard output cannot be written"
         ),
-        Err(r) => bail!("R {} {}", r.number, r.index),
+        Err(r) => print_refusal(r),
     }
     Ok(())
 }

@@ -4,47 +4,55 @@
 #![tactic(auto)]
 
 use dates::{Date, NoSuchDate};
-use std::io;
+use output::{Output, STANDARD_OUTPUT};
+use std::fmt::{self, Write};
 
-fn show(rt: &impl Print, year: u16, month: u8, day: u8) -> io::Result<()> {
-    print!(rt; "{year}-{month:02}-{day:02} ")?;
-    match dates::day_number(Date { year, month, day }) {
-        Ok(n) => println!(rt; "{}", n.0),
-        Err(NoSuchDate) => println!(rt; "no such date"),
+#[derive(Drop)]
+struct TwoDigits(u8);
+
+impl fmt::Display for TwoDigits {
+    fn fmt<W: fmt::Write>(&self, f: &mut fmt::Formatter<W>) -> fmt::Result {
+        if self.0 < 10 {
+            f.write_str("0")?;
+        }
+        write!(f, "{}", self.0)
     }
 }
 
-fn ends_of_range(rt: &impl Print) -> io::Result<()> {
-    show(rt, 1989, 12, 31)?;
-    show(rt, 1990, 1, 1)?;
-    show(rt, 2099, 12, 31)?;
-    show(rt, 2100, 1, 1)
+fn show(year: u16, month: u8, day: u8) {
+    let mut out = Output(STANDARD_OUTPUT);
+    let _ = write!(out, "{year}-{}-{} ", TwoDigits(month), TwoDigits(day));
+    let _ = match dates::day_number(Date { year, month, day }) {
+        Ok(n) => write!(out, "{}", n.0),
+        Err(NoSuchDate) => out.write_str("no such date"),
+    };
+    let _ = out.write_str("\n");
 }
 
-fn ends_of_february(rt: &impl Print) -> io::Result<()> {
+fn ends_of_range() {
+    show(1989, 12, 31);
+    show(1990, 1, 1);
+    show(2099, 12, 31);
+    show(2100, 1, 1);
+}
+
+fn ends_of_february() {
     for year in [1999, 2000, 2004, 2099] {
         for (month, day) in [(1, 31), (2, 1), (2, 28), (2, 29), (3, 1)] {
-            show(rt, year, month, day)?;
+            show(year, month, day);
         }
     }
-    Ok(())
 }
 
-fn first_days(rt: &impl Print, year: u16) -> io::Result<()> {
+fn first_days(year: u16) {
     for month in 1..=12 {
-        show(rt, year, month, 1)?;
+        show(year, month, 1);
     }
-    Ok(())
 }
 
-fn dates_with_numbers(rt: &impl Print) -> io::Result<()> {
-    ends_of_range(rt)?;
-    ends_of_february(rt)?;
-    first_days(rt, 2023)?;
-    first_days(rt, 2024)
-}
-
-// A print that fails is the last one, and ends the program as the last date does.
-fn main(rt: HostRuntime) {
-    let _ = dates_with_numbers(&rt);
+fn main() {
+    ends_of_range();
+    ends_of_february();
+    first_days(2023);
+    first_days(2024);
 }

@@ -8,7 +8,6 @@ ghost use Rattle.history.specs.Replay.{records_in, Replayed};
 
 use file::FileRefusal;
 use outcome::{OutOfRange, OutcomeResult};
-use std::io;
 
 mod print; // print.rt: answers on standard output
 mod replay; // replay.rt: the calls that a byte string makes
@@ -16,54 +15,54 @@ mod replay; // replay.rt: the calls that a byte string makes
 const LONG_LISTING: usize = 1000;
 
 // Of a long listing only how many bytes it has, its first line of 24 bytes, and the last one with the four of the outcome.
-fn print_listing(rt: &impl Print, text: &[u8]) -> io::Result<()> {
+fn print_listing(text: &[u8]) {
     if text.len() <= LONG_LISTING {
-        return rt.write_all(text);
+        return print::text(text);
     }
-    println!(rt; "{}", text.len())?;
-    rt.write_all(&text[..24])?;
-    rt.write_all(&text[text.len() - 71..])
+    print::length(text.len());
+    print::text(&text[..24]);
+    print::text(&text[text.len() - 71..]);
 }
 
-fn listing(rt: &impl Print, bytes: &[u8]) -> io::Result<()> {
+fn listing(bytes: &[u8]) {
     let mut page = listing_text::blank_page();
     let n = listing::list(bytes, &mut page);
-    print_listing(rt, &page[..n])
+    print_listing(&page[..n]);
 }
 
-fn judged(rt: &impl Print, bytes: &[u8]) -> Result<OutcomeResult, FileRefusal>
+fn judged(bytes: &[u8]) -> Result<OutcomeResult, FileRefusal>
     ensures { JudgesFile bytes.now result }
 {
     let answer = file::judge_file(bytes);
-    let _ = print::judged(rt, answer);
+    print::judged(answer);
     answer
 }
 
-fn replayed(rt: &impl Print, name: &[u8], bytes: &[u8]) -> Result<OutcomeResult, OutOfRange>
+fn replayed(name: &[u8], bytes: &[u8]) -> Result<OutcomeResult, OutOfRange>
     ensures { Replayed (records_in bytes.now) result }
 {
-    let _ = rt.write_all(name);
-    let o = replay::replay(rt, bytes);
-    let _ = print::outcome(rt, o);
+    print::text(name);
+    let o = replay::replay(bytes);
+    print::outcome(o);
     o
 }
 
 // The last reading of the replay.
-pub fn show_history(rt: &impl Print, name: &[u8], bytes: &[u8]) -> Result<OutcomeResult, OutOfRange>
+pub fn show_history(name: &[u8], bytes: &[u8]) -> Result<OutcomeResult, OutOfRange>
     ensures { Replayed (records_in bytes.now) result }
 {
-    let o = replayed(rt, name, bytes);
-    let _ = judged(rt, bytes);
-    let _ = listing(rt, bytes);
+    let o = replayed(name, bytes);
+    let _ = judged(bytes);
+    listing(bytes);
     o
 }
 
 // As a file alone, for bytes that are no whole records.
-pub fn show_file(rt: &impl Print, name: &[u8], bytes: &[u8]) -> Result<OutcomeResult, FileRefusal>
+pub fn show_file(name: &[u8], bytes: &[u8]) -> Result<OutcomeResult, FileRefusal>
     ensures { JudgesFile bytes.now result }
 {
-    let _ = rt.write_all(name);
-    let answer = judged(rt, bytes);
-    let _ = listing(rt, bytes);
+    print::text(name);
+    let answer = judged(bytes);
+    listing(bytes);
     answer
 }

@@ -3,17 +3,19 @@ use adding::AddAnswer;
 use file::FileRefusal;
 use outcome::{OutOfRange, OutcomeResult, SettledMarks};
 use outcome_rules::{BestResponse, DurationResult, PfsStatus};
-use std::{fmt, io};
+use output::{Output, STANDARD_OUTPUT};
+use std::fmt::{self, Write};
 use subject::OpenRefusal;
 
+// The status with the space behind it.
 #[derive(Drop)]
 struct Status(PfsStatus);
 
 impl fmt::Display for Status {
     fn fmt<W: fmt::Write>(&self, f: &mut fmt::Formatter<W>) -> fmt::Result {
         f.write_str(match self.0 {
-            PfsStatus::Event => "EVENT",
-            PfsStatus::Censored => "CENSORED",
+            PfsStatus::Event => "EVENT ",
+            PfsStatus::Censored => "CENSORED ",
         })
     }
 }
@@ -40,12 +42,21 @@ impl fmt::Display for Duration {
     fn fmt<W: fmt::Write>(&self, f: &mut fmt::Formatter<W>) -> fmt::Result {
         match self.0 {
             None => f.write_str("none"),
-            Some(r) => write!(f, "{} {}", Status(r.status), r.days),
+            Some(r) => write!(f, "{}{}", Status(r.status), r.days),
         }
     }
 }
 
-// 1 for a part that is settled, else 0.
+// Behind a space, 1 for a part that is settled, else 0.
+#[derive(Drop)]
+struct Mark(bool);
+
+impl fmt::Display for Mark {
+    fn fmt<W: fmt::Write>(&self, f: &mut fmt::Formatter<W>) -> fmt::Result {
+        f.write_str(if self.0 { " 1" } else { " 0" })
+    }
+}
+
 #[derive(Drop)]
 struct Marks(SettledMarks);
 
@@ -54,61 +65,76 @@ impl fmt::Display for Marks {
         let settled = self.0;
         write!(
             f,
-            "{} {} {}",
-            u8::from(settled.pfs),
-            u8::from(settled.best),
-            u8::from(settled.duration)
+            "{}{}{}",
+            Mark(settled.pfs),
+            Mark(settled.best),
+            Mark(settled.duration)
         )
     }
 }
 
+pub(crate) fn text(line: &[u8]) {
+    io::write_all(STANDARD_OUTPUT, line);
+}
+
+pub(crate) fn length(n: usize) {
+    let _ = write!(Output(STANDARD_OUTPUT), "{n}\n");
+}
+
 // Behind an A, which starts the numbers of a history.
-pub(crate) fn opened(rt: &impl Print, answer: Result<(), OpenRefusal>) -> io::Result<()> {
-    print!(rt; "A {}", subject::open_number(answer))
+pub(crate) fn opened(answer: Result<(), OpenRefusal>) {
+    let _ = write!(
+        Output(STANDARD_OUTPUT),
+        "A {}",
+        subject::open_number(answer)
+    );
 }
 
 // Behind a space.
-pub(crate) fn added(rt: &impl Print, answer: AddAnswer) -> io::Result<()> {
-    print!(rt; " {}", adding::add_number(answer))
+pub(crate) fn added(answer: AddAnswer) {
+    let _ = write!(Output(STANDARD_OUTPUT), " {}", adding::add_number(answer));
 }
 
-fn outcome_lines(rt: &impl Print, o: OutcomeResult) -> io::Result<()> {
-    println!(rt; "P {} {}", Status(o.pfs.status), o.pfs.day.0)?;
-    println!(rt; "B {}", Best(o.best))?;
-    println!(rt; "D {}", Duration(o.duration))?;
-    println!(rt; "S {}", Marks(o.settled))
-}
-
-// Below the line of numbers, which it ends.
-pub(crate) fn outcome(
-    rt: &impl Print,
-    reading: Result<OutcomeResult, OutOfRange>,
-) -> io::Result<()> {
-    println!(rt)?;
-    match reading {
-        Ok(o) => outcome_lines(rt, o),
-        Err(OutOfRange) => println!(rt; "R 12"),
-    }
-}
-
-// The outcome of a file on one line.
-fn accepted(rt: &impl Print, o: OutcomeResult) -> io::Result<()> {
-    println!(rt;
-        "F {} {} {} {} {}",
+fn outcome_lines(o: OutcomeResult) {
+    let _ = write!(
+        Output(STANDARD_OUTPUT),
+        "\nP {}{}\nB {}\nD {}\nS{}\n",
         Status(o.pfs.status),
         o.pfs.day.0,
         Best(o.best),
         Duration(o.duration),
         Marks(o.settled)
-    )
+    );
 }
 
-pub(crate) fn judged(
-    rt: &impl Print,
-    answer: Result<OutcomeResult, FileRefusal>,
-) -> io::Result<()> {
+// Below the line of numbers, which it ends.
+pub(crate) fn outcome(reading: Result<OutcomeResult, OutOfRange>) {
+    match reading {
+        Ok(o) => outcome_lines(o),
+        Err(OutOfRange) => text(b"\nR 12\n"),
+    }
+}
+
+// The outcome of a file on one line.
+fn accepted(o: OutcomeResult) {
+    let _ = write!(
+        Output(STANDARD_OUTPUT),
+        "F {}{} {} {}{}\n",
+        Status(o.pfs.status),
+        o.pfs.day.0,
+        Best(o.best),
+        Duration(o.duration),
+        Marks(o.settled)
+    );
+}
+
+fn refused(r: FileRefusal) {
+    let _ = write!(Output(STANDARD_OUTPUT), "F R {} {}\n", r.number, r.index);
+}
+
+pub(crate) fn judged(answer: Result<OutcomeResult, FileRefusal>) {
     match answer {
-        Ok(o) => accepted(rt, o),
-        Err(r) => println!(rt; "F R {} {}", r.number, r.index),
+        Ok(o) => accepted(o),
+        Err(r) => refused(r),
     }
 }

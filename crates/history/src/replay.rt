@@ -18,18 +18,18 @@ fn record_in(part: &[u8]) -> Record
     result.found
 }
 
-pub(crate) fn replay(rt: &impl Print, bytes: &[u8]) -> Result<OutcomeResult, OutOfRange>
+pub(crate) fn replay(bytes: &[u8]) -> Result<OutcomeResult, OutOfRange>
     ensures { Replayed (records_in bytes.now) result }
 {
     if bytes.len() < RECORD_LENGTH {
         return Err(OutOfRange);
     }
     let opened = subject::open_subject(record_in(&bytes[..RECORD_LENGTH]));
-    let _ = print::opened(rt, opened.answer);
+    print::opened(opened.answer);
     let mut subject = opened.subject;
     for part in bytes[RECORD_LENGTH..].chunks_exact(RECORD_LENGTH) {
         let addition = adding::added(subject, record_in(part));
-        let _ = print::added(rt, addition.answer);
+        print::added(addition.answer);
         subject = addition.subject;
         let _between = outcome::read_outcome(subject);
     }

@@ -4,7 +4,7 @@ ghost use Rattle.outcome.specs.ReadingOutcome.{outcome_values, outcome_of, Reads
 
 use super::settled::{best_settled, duration_settled, pfs_settled};
 use super::{OutOfRange, OutcomeResult, SettledMarks};
-use outcome_values::{duration_of, pfs_of};
+use outcome_values::{duration_of, is_recorded, pfs_of};
 use subject::Subject;
 
 #[tactic(auto, unfolding(crate::specs::ReadingOutcome::outcome_of))]
@@ -21,8 +21,8 @@ fn outcome_of(s: Subject) -> OutcomeResult
         event.lastevaluable,
     );
     let duration = duration_of(best, followup.counting.firstresponse, pfs);
-    let progressed = event.progression.is_some();
-    let dead = followup.deathday.is_some();
+    let progressed = is_recorded(event.progression);
+    let dead = is_recorded(followup.deathday);
     let assessed = s.enrolment.disease.assessed;
     let pfs_mark = pfs_settled(assessed, progressed, dead, followup.latestday);
     let best_mark = best_settled(progressed, followup.therapyrecorded, dead, assessed, best);

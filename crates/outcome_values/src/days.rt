@@ -11,7 +11,6 @@ pub(crate) fn days_between(from: StudyDay, to: StudyDay) -> u32
     to.0.saturating_sub(from.0)
 }
 
-// For users; the edits absent_day_recorded and no_day_recorded hold it.
 pub fn is_recorded(day: Option<StudyDay>) -> bool
     ensures { result ≡ is_recorded (day_value day) }
 {

@@ -1,3 +1,3 @@
 pub mod AtTheEdges
 pub mod GridCells
-pub mod FirstPlaces
+pub mod OverallReturns

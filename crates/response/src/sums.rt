@@ -25,8 +25,14 @@ pub(crate) fn baseline_sum(count: u8, sizes: [u16; 5]) -> u32
     sum_of_diameters(within, sizes)
 }
 
+#[tactic(auto, unfolding(response_rules::specs::SumOfDiameters::all_measured))]
 pub(crate) fn all_measured(count: u8, measured: [bool; 5]) -> bool
     ensures { result ≡ all_measured count measured }
 {
-    measured.iter().take(count as usize).all(|m| *m)
+    for i in 0..5 {
+        if i < count as usize && !measured[i] {
+            return false;
+        }
+    }
+    true
 }

@@ -15,6 +15,7 @@ use Rattle.subject.specs.declared.CountingVisits.{CountingVisits}
 use Rattle.subject.specs.Opening.{no_visits, no_counting_visits, subject_of_baseline, blank_subject, open_number, subject_of_entry, OpensChecked, opened_subject, Opens, OpensBytes}
 use Rattle.laws.specs.Choice.{pick}
 use Rattle.laws.specs.Refusals.{◌when◌, first}
+use Rattle.records.specs.declared.VisitEntry.{VisitEntry}
 use Rattle.records.specs.declared.Entry.{Entry}
 use Rattle.records.specs.declared.Entry.TheVariants as E
 use Rattle.records.specs.declared.Record.{Record}
@@ -78,6 +79,11 @@ only_baseline (E.Visit v) marks sizes = refl
 only_baseline (E.Therapy d) marks sizes = refl
 only_baseline (E.Death d) marks sizes = refl
 
+-- what is refused by 7
+pub checked_visit : (e : Entry) (marks : List Bool) (sizes : List ℕ) (x : OpenResult) → (x.answer ≡ Err N.NotBaseline) × (x.subject ≡ blank_subject) → (v : VisitEntry) →
+    e ≡ E.Visit v → OpensChecked e marks sizes x.answer x.subject
+checked_visit e marks sizes x q v k = record { answer = rw (q.0, k); made = q.1 ∙ rw k }
+
 -- a record that none of its own refusals meets
 opened_checked : (r : Record) (a : Result (Unit {0}) OpenRefusal) (t : Subject) → refusal_of_record new_unit r ≡ 0 → OpensChecked r.entry r.marks r.sizes a t →
     (open_number a ≡ refusal_of_opening new_unit r) × (t ≡ opened_subject r)
@@ -122,6 +128,9 @@ module _ (s : List ℕ) (read : ReadResult) (w : Reads s read) (x : OpenResult) 
         made = q.1 ∙ rw (met, refusal_not_0 e) (sym blank_opens_none);
         octets = w.octets;
       }
+
+  pub bytes_short : read.answer ≡ Err R.WrongLength → (x.answer ≡ Err N.WrongLength) × (x.subject ≡ blank_subject) → OpensBytes s x.answer x.subject
+  bytes_short p q = bytes_refused R.WrongLength N.WrongLength p refl q
 
   pub bytes_read : read.answer ≡ Ok tt → OpensChecked read.found.entry read.found.marks read.found.sizes x.answer x.subject →
       OpensBytes s x.answer x.subject

@@ -7,7 +7,7 @@ use super::days::{confirmed_on, first_recorded};
 use super::{CountingVisits, EventDays};
 use dates::StudyDay;
 use outcome_rules::{BestResponse, JudgedVisit};
-use outcome_values::best_of;
+use outcome_values::{best_of, is_recorded};
 use response_rules::OverallAnswer;
 
 // The day from which SD is a best response.
@@ -27,7 +27,7 @@ fn evaluable_on(visit: StudyDay) -> EventDays
 pub fn event_after(event: EventDays, visit: JudgedVisit) -> EventDays
     ensures { result ≡ event_after event (judged_values visit) }
 {
-    if event.progression.is_some() {
+    if is_recorded(event.progression) {
         return event;
     }
     match visit.answer {

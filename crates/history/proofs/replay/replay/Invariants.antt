@@ -7,5 +7,5 @@ use Rattle.history.proofs.ReplayAsCalls.{Goes}
 use Rattle.history.proofs.replay.replay.Given as goal
 
 abbrev pub invariant-loop-part : goal.invariant-loop-part
-invariant-loop-part g l =
+invariant-loop-part l =
     (l.part-iterator.size ≡ record_length) × Goes (drop record_length l.bytes) l.initial.subject l.subject l.part-iterator.rest.now
